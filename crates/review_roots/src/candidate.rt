@@ -4,6 +4,7 @@ ghost use Rattle.sudo_verdict.specs.RunasForms as form;
 ghost use Rattle.review_roots.specs.Blocks.{lists};
 ghost use Rattle.review_roots.specs.Body.Candidates as spec;
 ghost use Rattle.review_roots.specs.Body.Raising.{indices, passes_at};
+ghost use Rattle.review_roots.specs.Body.Towards.{IsToward};
 ghost use Rattle.review_roots.specs.States.{person_of};
 ghost use Rattle.review_roots.specs.declared.candidate.Candidate.{Candidate as TheCandidate};
 
@@ -18,7 +19,7 @@ use sudo_match::Person;
 use sudo_verdict::lists_user;
 
 /// A user with its added group, if any: the indices of the blocks whose user list allows it, and of those of them that raise;
-/// and what steps to it depend on.
+/// and what steps to it depend on, if it has no added group.
 #[derive(Drop)]
 pub(crate) struct Candidate {
     pub(crate) state: State,
@@ -117,6 +118,22 @@ fn person_at(
     Ok(Some(with_added(alloc, person, group)?))
 }
 
+// Returns what steps to a state depend on, if it has no added group: steps to another one are not found by it.
+fn toward_alone(alloc: Global, ground: Ground<'_, '_>, state: State) -> Result<Toward, AllocError>
+    ensures { IfOk result (λ toward. state.added ≡ None → IsToward ground.entry.checked.now
+        ground.entry.directory.now ground.entry.groups.now ground.entry.blocks.now state
+        toward) }
+{
+    if state.added.is_some() {
+        return Ok(Toward {
+            state,
+            allowed: Vec::new(alloc),
+        });
+    }
+    let toward = toward_at(alloc, ground, state)?;
+    Ok(toward)
+}
+
 // Returns the candidate of a state, from its user and from the blocks that raise and list it.
 fn candidate_of(
     alloc: Global,
@@ -133,7 +150,7 @@ fn candidate_of(
         ground.entry.blocks.now c) }
 {
     let listed = listed_of(alloc, ground, &person)?;
-    let toward = toward_at(alloc, ground, state)?;
+    let toward = toward_alone(alloc, ground, state)?;
     Ok(Candidate {
         state,
         person,

@@ -47,8 +47,9 @@ fn both_at(one: &[bool], other: &[bool], index: usize) -> bool
 impl<'r, 'a> HostSteps<'r, 'a> {
     /// Returns the candidate of a state, if it is known and has no added group.
     pub(crate) fn known(&self, state: State) -> Option<&'r Candidate>
-        ensures { (c : Bor TheCandidate) → result ≡ Some c
+        ensures candidate { (c : Bor TheCandidate) → result ≡ Some c
             → (c.now.state ≡ state) × IsCandidate self.now c.now }
+        ensures alone { (c : Bor TheCandidate) → result ≡ Some c → state.added ≡ None }
     {
         if state.added.is_some() {
             return None;

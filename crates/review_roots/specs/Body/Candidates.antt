@@ -38,13 +38,13 @@ raises_for p least u b = block_raises least b && lists p u b
 
 -- ---- Candidates
 
--- the candidate is the user of its state; the blocks that list it, those of them that raise, and what steps to it depend on
--- are known
+-- the candidate is the user of its state; the blocks that list it, and those of them that raise, are known, and so is what steps
+-- to it depend on, if it has no added group
 pub record Qualifies (p : Policy) (d : KnownRows) (groups : List Group) (least : Level) (bs : List Block) (c : Candidate) : Type 0 where
   pub person : person_of d groups c.state ≡ Some c.person
   pub listed : c.listed.items ≡ indices (lists p c.person) bs
   pub strong : c.strong.items ≡ indices (raises_for p least c.person) bs
-  pub toward : IsToward p d groups bs c.state c.toward
+  pub toward : c.state.added ≡ None → IsToward p d groups bs c.state c.toward
 
 -- no block that raises lists the user of the state
 abbrev pub IsSilent : Policy → KnownRows → List Group → Level → List Block → State → Type 0
