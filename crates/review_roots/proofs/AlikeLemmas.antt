@@ -70,7 +70,7 @@ group-value-same p members g h first second =
 
 -- ---- A list of users that does not name a group says the same of a user with it
 
-added-value :
+pub added-value :
     (k : Kind) (p : Policy) (members : List Member) (u : Person) (g : Group) → list_names g (written_form k p members) ≡ false →
     value k p members (λ a. user_fits a (with_added u (Some g))) ≡ value k p members (λ a. user_fits a u)
 unfolding value

@@ -26,5 +26,6 @@ pub mod UnnamedLemmas
 pub mod AlikeLemmas
 pub mod UserLemmas
 pub mod KeptLemmas
+pub mod NamingLemmas
 pub mod MayLemmas
 pub mod PathLemmas

@@ -8,5 +8,6 @@ pub mod Towards
 pub mod Found
 pub mod Unnamed
 pub mod Kept
+pub mod Naming
 pub mod Passing
 pub mod May

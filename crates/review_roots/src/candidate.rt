@@ -1,14 +1,16 @@
 //! Users that may take steps, with what is known of each on all hosts.
-ghost use Rattle.std.specs.Prelude.{◌≡◌, [], IfOk, Some, None, true};
+ghost use Rattle.std.specs.Prelude.{◌≡◌, [], IfOk, OnOk, Some, None, true};
 ghost use Rattle.sudo_verdict.specs.RunasForms as form;
 ghost use Rattle.review_roots.specs.Blocks.{lists};
 ghost use Rattle.review_roots.specs.Body.Candidates as spec;
-ghost use Rattle.review_roots.specs.Body.Raising.{indices, passes_at};
+ghost use Rattle.review_roots.specs.Body.Naming.{AreRows, IsBase};
+ghost use Rattle.review_roots.specs.Body.Raising.{indices};
 ghost use Rattle.review_roots.specs.Body.Towards.{IsToward};
 ghost use Rattle.review_roots.specs.States.{person_of};
 ghost use Rattle.review_roots.specs.declared.candidate.Candidate.{Candidate as TheCandidate};
 
 use crate::Level;
+use crate::base::{Base, listed_beside, lists_at, set_base};
 use crate::block::Block;
 use crate::ground::Ground;
 use crate::raising::push_if;
@@ -47,17 +49,6 @@ pub(crate) fn is_same_user(one: &Person, other: &Person) -> bool
     may_be_same(one, other) && one == other
 }
 
-// Whether there is a block at the index, and its user list allows the user.
-fn lists_at(ground: Ground<'_, '_>, index: usize, person: &Person) -> bool
-    ensures { result ≡ passes_at (lists ground.entry.checked.now person.now)
-        ground.entry.blocks.now index }
-{
-    match ground.blocks.get(index) {
-        Some(block) => lists_user(ground.checked, block.users, person),
-        None => false,
-    }
-}
-
 // Whether no index is listed.
 fn is_none(indices: &[usize]) -> bool
     ensures { result ≡ true → indices.now ≡ [] }
@@ -82,6 +73,37 @@ fn listed_of(
         let passes = lists_user(ground.checked, ground.blocks[index].users, person);
         push_if(&mut listed, index, passes)?;
     }
+    Ok(listed)
+}
+
+// Returns the same of the user of a state, where a block that does not name its added group lists it as without that group.
+fn listed_by(
+    alloc: Global,
+    ground: Ground<'_, '_>,
+    rows: &[Vec<bool>],
+    base: &mut Base,
+    state: State,
+    person: &Person,
+) -> Result<Vec<usize>, AllocError>
+    requires rows { AreRows ground.checked.now ground.blocks.now ground.groups.now rows.now }
+    requires base { IsBase ground.checked.now ground.directory.now ground.blocks.now base.now }
+    requires person { person_of ground.directory.now ground.groups.now state
+        ≡ Some person.now }
+    ensures base { OnOk result (IsBase ground.entry.checked.now ground.entry.directory.now
+        ground.entry.blocks.now base.new) }
+    ensures listed { IfOk result (λ listed. listed.items
+        ≡ indices (lists ground.entry.checked.now person.now) ground.entry.blocks.now) }
+{
+    let Some(index) = state.added else {
+        let listed = listed_of(alloc, ground, person)?;
+        return Ok(listed);
+    };
+    let Some(row) = rows.get(index) else {
+        let listed = listed_of(alloc, ground, person)?;
+        return Ok(listed);
+    };
+    set_base(alloc, ground, state.user, base)?;
+    let listed = listed_beside(alloc, ground, &base.passes, row, person)?;
     Ok(listed)
 }
 
@@ -134,22 +156,23 @@ fn toward_alone(alloc: Global, ground: Ground<'_, '_>, state: State) -> Result<T
     Ok(toward)
 }
 
-// Returns the candidate of a state, from its user and from the blocks that raise and list it.
+// Returns the candidate of a state, from its user and from the blocks that list it, and those of them that raise.
 fn candidate_of(
     alloc: Global,
     ground: Ground<'_, '_>,
     state: State,
     person: Person,
+    listed: Vec<usize>,
     strong: Vec<usize>,
 ) -> Result<Candidate, AllocError>
     requires person { person_of ground.directory.now ground.groups.now state ≡ Some person }
+    requires listed { listed.items ≡ indices (lists ground.checked.now person) ground.blocks.now }
     requires strong { strong.items ≡ indices (spec.raises_for ground.checked.now
         ground.least person) ground.blocks.now }
     ensures { IfOk result (λ c. (c.state ≡ state) × spec.Qualifies ground.entry.checked.now
         ground.entry.directory.now ground.entry.groups.now ground.entry.least
         ground.entry.blocks.now c) }
 {
-    let listed = listed_of(alloc, ground, &person)?;
     let toward = toward_alone(alloc, ground, state)?;
     Ok(Candidate {
         state,
@@ -175,8 +198,9 @@ pub(crate) fn candidate_at(
     let Some(person) = person_at(alloc, ground, state)? else {
         return Ok(None);
     };
+    let listed = listed_of(alloc, ground, &person)?;
     let strong = strong_of(alloc, ground, &person)?;
-    Ok(Some(candidate_of(alloc, ground, state, person, strong)?))
+    Ok(Some(candidate_of(alloc, ground, state, person, listed, strong)?))
 }
 
 /// Returns the same for a state that a block which raises lists, or whose user has ID 0, and `None` for any other. Returns
@@ -184,8 +208,14 @@ pub(crate) fn candidate_at(
 pub(crate) fn hopeful(
     alloc: Global,
     ground: Ground<'_, '_>,
+    rows: &[Vec<bool>],
+    base: &mut Base,
     state: State,
 ) -> Result<Option<Candidate>, AllocError>
+    requires rows { AreRows ground.checked.now ground.blocks.now ground.groups.now rows.now }
+    requires base { IsBase ground.checked.now ground.directory.now ground.blocks.now base.now }
+    ensures base { OnOk result (IsBase ground.entry.checked.now ground.entry.directory.now
+        ground.entry.blocks.now base.new) }
     ensures known { IfOk result (λ found. (c : TheCandidate) → found ≡ Some c
         → (c.state ≡ state) × spec.Qualifies ground.entry.checked.now ground.entry.directory.now
         ground.entry.groups.now ground.entry.least ground.entry.blocks.now c) }
@@ -200,5 +230,6 @@ pub(crate) fn hopeful(
     if is_none(&strong) && person.uid != 0 {
         return Ok(None);
     }
-    Ok(Some(candidate_of(alloc, ground, state, person, strong)?))
+    let listed = listed_by(alloc, ground, rows, base, state, &person)?;
+    Ok(Some(candidate_of(alloc, ground, state, person, listed, strong)?))
 }

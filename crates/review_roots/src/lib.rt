@@ -5,6 +5,7 @@
 #![tactic(auto)]
 
 mod addable;
+mod base;
 mod block;
 mod blocks;
 mod candidate;
@@ -17,6 +18,7 @@ mod kept;
 mod laws;
 mod level;
 mod may;
+mod naming;
 mod raising;
 mod roots;
 mod rules;

@@ -5,6 +5,7 @@ ghost use Rattle.sudo_match.specs.KnownRows.{directory_fault};
 ghost use Rattle.review_roots.specs.Blocks.{AreBlocks, block_resolves};
 ghost use Rattle.review_roots.specs.Body.Candidates.{AreCandidates};
 ghost use Rattle.review_roots.specs.Body.Kept.{kept_states};
+ghost use Rattle.review_roots.specs.Body.Naming.{AreRows, IsBase};
 ghost use Rattle.review_roots.specs.Body.Raising.{block_raises, indices};
 ghost use Rattle.review_roots.specs.Body.Unnamed.{AreIds};
 ghost use Rattle.review_roots.specs.Ranks.{is_at_least};
@@ -12,11 +13,13 @@ ghost use Rattle.review_roots.specs.declared.level.Level.TheVariants as level;
 ghost use Rattle.review_roots.specs.declared.state.State.{State as TheState};
 
 use crate::Level;
+use crate::base::{Base, base_of};
 use crate::block::Block;
 use crate::blocks::blocks_of;
 use crate::candidate::{Candidate, hopeful};
 use crate::ground::Ground;
 use crate::kept::kept_states;
+use crate::naming::naming;
 use crate::raising::raising_of;
 use crate::state::State;
 use crate::unnamed::named_ids;
@@ -69,17 +72,23 @@ struct Gathered {
 fn gather_state(
     alloc: Global,
     ground: Ground<'_, '_>,
+    rows: &[Vec<bool>],
     state: State,
+    base: &mut Base,
     gathered: &mut Gathered,
 ) -> Result<(), AllocError>
-    ensures { OnOk result ((before : List TheState) → AreCandidates ground.entry.checked.now
+    requires rows { AreRows ground.checked.now ground.blocks.now ground.groups.now rows.now }
+    requires base { IsBase ground.checked.now ground.directory.now ground.blocks.now base.now }
+    ensures base { OnOk result (IsBase ground.entry.checked.now ground.entry.directory.now
+        ground.entry.blocks.now base.new) }
+    ensures candidates { OnOk result ((before : List TheState) → AreCandidates ground.entry.checked.now
         ground.entry.directory.now ground.entry.groups.now ground.entry.least
         ground.entry.blocks.now before gathered.old.candidates.items
         → AreCandidates ground.entry.checked.now ground.entry.directory.now
         ground.entry.groups.now ground.entry.least ground.entry.blocks.now
         (before ++ state ∷ []) gathered.new.candidates.items) }
 {
-    match hopeful(alloc, ground, state)? {
+    match hopeful(alloc, ground, rows, base, state)? {
         Some(candidate) => {
             gathered.places.push(Some(gathered.candidates.len()))?;
             gathered.candidates.push(candidate)?;
@@ -95,12 +104,14 @@ fn gather(alloc: Global, ground: Ground<'_, '_>, states: &[State]) -> Result<Gat
         ground.entry.directory.now ground.entry.groups.now ground.entry.least
         ground.entry.blocks.now states.now gathered.candidates.items) }
 {
+    let rows = naming(alloc, ground)?;
+    let mut base = base_of(alloc, ground, 0)?;
     let mut gathered = Gathered {
         candidates: Vec::new(alloc),
         places: Vec::new(alloc),
     };
     for state in states {
-        gather_state(alloc, ground, *state, &mut gathered)?;
+        gather_state(alloc, ground, &rows, *state, &mut base, &mut gathered)?;
     }
     Ok(gathered)
 }

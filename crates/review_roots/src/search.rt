@@ -140,8 +140,8 @@ fn draw_to<'c>(
     }
 }
 
-// Moves the candidates with a step of the level to a found state to those that are found, and returns the others, where the state is at the
-// target or has no added group; to another state it moves none.
+// Moves the candidates with a step of the level to a found state to those that are found, and returns the others, where the state
+// is at the target or has no added group; to another state it moves none.
 fn draw_alone<'c>(
     alloc: Global,
     steps: &HostSteps<'_, '_>,

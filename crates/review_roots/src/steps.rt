@@ -27,8 +27,8 @@ use std::alloc::{AllocError, Global};
 use sudo_match::{Group, Person};
 use sudo_verdict::{Asker, allows_runas};
 
-// Whether the list has true at the index.
-fn is_at(list: &[bool], index: usize) -> bool
+/// Whether the list has true at the index.
+pub(crate) fn is_at(list: &[bool], index: usize) -> bool
     ensures { result ≡ slice_index_or list.now index false }
 {
     match list.get(index) {

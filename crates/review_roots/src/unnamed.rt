@@ -150,8 +150,8 @@ fn fits_by_name(group: &Group, atom: &Atom) -> bool
     }
 }
 
-// Whether an atom of a list of users names the group.
-fn has_user_atom(atoms: &[Signed], group: &Group) -> bool
+/// Whether an atom of a list of users names the group.
+pub(crate) fn has_user_atom(atoms: &[Signed], group: &Group) -> bool
     ensures { result ≡ known.list_names group.now atoms.now }
 {
     atoms.iter().any(|signed| names_group(group, &signed.atom))

@@ -1,8 +1,11 @@
 use Rattle.std.proofs.Common.{take}
 use Rattle.review_roots.specs.Body.Candidates.{AreCandidates}
+use Rattle.review_roots.specs.Body.Naming.{IsBase}
 use Rattle.review_roots.proofs.rules.gather.Given as goal
 
 abbrev pub invariant-loop-state : goal.invariant-loop-state
-invariant-loop-state l =
-    AreCandidates l.ground.checked.now l.ground.directory.now l.ground.groups.now l.ground.least l.ground.blocks.now
-    (take l.state-index l.states) l.gathered.candidates.items
+invariant-loop-state l = record {
+  base : IsBase l.ground.checked.now l.ground.directory.now l.ground.blocks.now l.base;
+  gathered : AreCandidates l.ground.checked.now l.ground.directory.now l.ground.groups.now l.ground.least l.ground.blocks.now
+      (take l.state-index l.states) l.gathered.candidates.items;
+}

@@ -3,8 +3,8 @@ use Rattle.review_roots.specs.Body.Candidates.{AreCandidates}
 use Rattle.review_roots.proofs.CandidateLemmas.{gathered-more}
 use Rattle.review_roots.proofs.rules.gather_state.Goals as goal
 
-pub returns-in_ok-push-in-Some-2 : goal.returns-in_ok-push-in-Some-2
-returns-in_ok-push-in-Some-2 c = λ before so_far.
+pub returns-in_ok-push-in-Some-2-clause-candidates : goal.returns-in_ok-push-in-Some-2-clause-candidates
+returns-in_ok-push-in-Some-2-clause-candidates c = λ before so_far.
     let ground = c.args.ground in
     subst (AreCandidates ground.checked.now ground.directory.now ground.groups.now ground.least ground.blocks.now
     (before ++ c.args.state ∷ [])) (sym c.in_ok-push-in-Some-2.ensures.items)
