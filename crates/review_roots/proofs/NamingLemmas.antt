@@ -1,6 +1,6 @@
 -- A block that does not name an added group lists a user with it as without it.
-use Rattle.std.proofs.Common.{◌≡◌, ◌<◌, ◌+◌, ◌++◌, ◌∙◌, ℕ, zero, suc, Bool, true, false, cond, List, [], ◌∷◌, Vec, Global, ap, map, refl, sym}
-use Rattle.std.proofs.Common.{Option, Some, None, arith, get_or, length, take}
+use Rattle.std.proofs.Common.{◌≡◌, ◌<◌, ◌+◌, ◌++◌, ◌∙◌, ℕ, zero, suc, Bool, true, false, cond, List, [], ◌∷◌, Vec, Global, ap, arith}
+use Rattle.std.proofs.Common.{Option, Some, None, get_or, length, map, refl, sym, take}
 use Rattle.std.specs.Prelude.{option_map, slice_get}
 use Rattle.std.specs.List.{list_any, slice_index_or}
 use Rattle.std.proofs.lemmas.List.{map-append}

@@ -1,4 +1,4 @@
-use Rattle.std.proofs.Common.{◌∙◌, ap, map, sym}
+use Rattle.std.proofs.Common.{◌∙◌, ap, map}
 use Rattle.std.proofs.lemmas.Result.{IfOk-weaker}
 use Rattle.review_roots.proofs.NamingLemmas.{rows-are}
 use Rattle.review_roots.proofs.naming.naming.Goals as goal
