@@ -64,14 +64,16 @@ pub(crate) fn is_include(text: &[u8]) -> bool
     if first == b'@' {
         return begins_word(text, b"@include") || begins_word(text, b"@includedir");
     }
-    first == b'#' && (begins_word(text, b"#include") || begins_word(text, b"#includedir"))
+    first == b'#'
+        && peek(text, 1) == b'i'
+        && (begins_word(text, b"#include") || begins_word(text, b"#includedir"))
 }
 
 /// Whether a physical line begins with `#`, is no include directive, and has no digit directly after the `#`.
 pub(crate) fn is_comment(line: &[u8]) -> bool
     ensures { result ≡ lines.is_comment line.now }
 {
-    peek(line, 0) == b'#' && !is_include(line) && !is_digit(peek(line, 1))
+    peek(line, 0) == b'#' && !is_digit(peek(line, 1)) && !is_include(line)
 }
 
 /// Whether a byte stands in a line.

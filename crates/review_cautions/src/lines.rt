@@ -111,8 +111,11 @@ fn is_escaped_include(continuing: bool, line: &[u8]) -> bool
 fn is_indented_include(continuing: bool, line: &[u8]) -> bool
     ensures { result ≡ spec.is_indented_include continuing line.now }
 {
+    if continuing || !is_blank(peek(line, 0)) {
+        return false;
+    }
     let text = strip(line);
-    !continuing && is_blank(peek(line, 0)) && peek(text, 0) == b'#' && is_include(text)
+    peek(text, 0) == b'#' && is_include(text)
 }
 
 // Returns the first physical line of a text, and an empty one if the text has none.
@@ -153,8 +156,8 @@ fn is_marked(class: CautionClass, line: &PhysicalLine<'_>) -> bool
     ensures { result ≡ spec.is_marked class line.now.continuing line.now.bytes.now
         (first_line (cut line.now.after.now)) }
 {
-    (matches!(class, CautionClass::Comment) || !is_comment_line(line.continuing, line.bytes))
-        && line_holds(class, line.continuing, line.bytes, line.after)
+    line_holds(class, line.continuing, line.bytes, line.after)
+        && (matches!(class, CautionClass::Comment) || !is_comment_line(line.continuing, line.bytes))
 }
 
 // Appends the caution on a physical line, if it has the construct of the class.
