@@ -1,6 +1,7 @@
 -- A line without a `#` has no comment.
-use Rattle.std.proofs.Common.{◌≡◌, ℕ, suc, Bool, true, false, List, [], ◌∷◌, length, refl, arith}
+use Rattle.std.proofs.Common.{◌≡◌, ◌∙◌, ◌-◌, ℕ, Bool, true, false, List, [], ◌∷◌, length, take, drop, slice_index_or, ap, refl, sym, arith}
 use Rattle.std.specs.Prelude.{not, ◌&&◌, ◌||◌, ◌==◌, if◌then◌else◌}
+use Rattle.std.proofs.lemmas.List.{take_all}
 use Rattle.std.specs.List.{list_any}
 use Rattle.memchr.specs.Find.{Nowhere, Passes, is_byte}
 use Rattle.sudo_text.specs.Bytes.{is_blank}
@@ -38,6 +39,43 @@ no_comment escaped quoted admitted (b ∷ bs) h =
     none (no_comment false quoted false bs rest) (no_comment true quoted false bs rest)
     (no_comment false (not quoted) false bs rest)
     (no_comment false quoted (admits_id b || (admitted && is_blank b)) bs rest)
+
+-- a `#` that begins no comment, and behind which none stands: which of the ways is taken
+passed : (e bs q h : Bool) (a b c d f : Bool) → (not e && h) ≡ false → a ≡ false → b ≡ false → c ≡ false → d ≡ false
+    → (if e then a else if bs then b else if q then c else if h then f else d) ≡ false
+passed true bs q h a b c d f none is-a is-b is-c is-d = is-a
+passed false true q h a b c d f none is-a is-b is-c is-d = is-b
+passed false false true h a b c d f none is-a is-b is-c is-d = is-c
+passed false false false true a b c d f none is-a is-b is-c is-d = cc
+passed false false false false a b c d f none is-a is-b is-c is-d = is-d
+
+-- behind a byte that begins no comment no `#` stands
+pub none_behind : (escaped quoted admitted : Bool) (b : ℕ) (bs : List ℕ)
+    → (not escaped && ((b == 35) && not quoted && not (admitted && begins_with_digit bs))) ≡ false
+    → list_any (λ c. c == 35) bs ≡ false → has_other_comment escaped quoted admitted (b ∷ bs) ≡ false
+none_behind escaped quoted admitted b bs none rest =
+    passed escaped (b == 92) (b == 34) ((b == 35) && not quoted && not (admitted && begins_with_digit bs))
+    (has_other_comment false quoted false bs) (has_other_comment true quoted false bs)
+    (has_other_comment false (not quoted) false bs)
+    (has_other_comment false quoted (admits_id b || (admitted && is_blank b)) bs) (begins_no_comment bs)
+    none (no_comment false quoted false bs rest) (no_comment true quoted false bs rest)
+    (no_comment false (not quoted) false bs rest)
+    (no_comment false quoted (admits_id b || (admitted && is_blank b)) bs rest)
+
+-- the same of bytes of which the first is that byte
+pub none_behind_first : (escaped quoted admitted : Bool) (bs : List ℕ)
+    → (not escaped && ((slice_index_or bs 0 0 == 35) && not quoted
+    && not (admitted && begins_with_digit (take (length bs - 1) (drop 1 bs))))) ≡ false
+    → list_any (λ c. c == 35) (take (length bs - 1) (drop 1 bs)) ≡ false → has_other_comment escaped quoted admitted bs ≡ false
+none_behind_first escaped quoted admitted [] none rest = refl
+none_behind_first escaped quoted admitted (b ∷ bs) none rest =
+    none_behind escaped quoted admitted b bs
+    (ap (λ cs. not escaped && ((b == 35) && not quoted && not (admitted && begins_with_digit cs))) (sym (take_all (length (b ∷ bs) - 1) bs (omega arith))) ∙ none)
+    (ap (list_any (λ c. c == 35)) (sym (take_all (length (b ∷ bs) - 1) bs (omega arith))) ∙ rest)
+
+-- a byte is a `#`, and none stands behind it
+pub is_last : (a b : Bool) → (a && not b) ≡ true → b ≡ false
+is_last a b h = grind arith
 
 pub no_sign : (line : List ℕ) → Nowhere (Passes (is_byte 35) line) 0 (length line) → has_other_comment false false true line ≡ false
 no_sign line none = no_comment false false true line (nowhere (is_byte 35) line none)

@@ -20,15 +20,18 @@ nowhere test (b ∷ bs) none =
     no-left (test b) (list_any test bs) (none-there (test b) (none 0 (omega arith) (omega arith)))
     ∙ nowhere test bs (λ k low high. none (suc k) (omega arith) (omega (arith, high)))
 
-there : (line : List ℕ) (k : ℕ) → k < length line → is_sign (slice_index line k) ≡ true → list_any is_sign line ≡ true
-there [] k less is = absurd (omega (arith, less))
-there (b ∷ bs) zero less is = ap (λ v. v || list_any is_sign bs) is
-there (b ∷ bs) (suc k) less is = by (is_sign b) (there bs k (omega (arith, less)) is)
+there : (test : ℕ → Bool) (line : List ℕ) (k : ℕ) → k < length line → test (slice_index line k) ≡ true → list_any test line ≡ true
+there test [] k less is = absurd (omega (arith, less))
+there test (b ∷ bs) zero less is = ap (λ v. v || list_any test bs) is
+there test (b ∷ bs) (suc k) less is = by (test b) (there test bs k (omega (arith, less)) is)
   where
-    by : (a : Bool) → list_any is_sign bs ≡ true → (a || list_any is_sign bs) ≡ true
+    by : (a : Bool) → list_any test bs ≡ true → (a || list_any test bs) ≡ true
     by true e = refl
     by false e = e
 
+pub found_byte : (test : ℕ → Bool) (line : List ℕ) (r : Option ℕ) → IsFirstByte test line r → is_some r ≡ list_any test line
+found_byte test line None none = sym (nowhere test line none)
+found_byte test line (Some k) is = sym (there test line k is.0.high is.1)
+
 pub found_sign : (line : List ℕ) (r : Option ℕ) → IsFirstByte (is_byte3 13 92 35) line r → is_some r ≡ list_any is_sign line
-found_sign line None none = sym (nowhere is_sign line none)
-found_sign line (Some k) is = sym (there line k is.0.high is.1)
+found_sign line r is = found_byte is_sign line r is

@@ -1,8 +1,9 @@
 -- What the marks of unused aliases leave of the lists of a policy are those that decide.
-use Rattle.std.proofs.Common.{◌≡◌, ℕ, Bool, true, false, List, [], ◌∷◌, ◌++◌, Option, None, Some, map, refl, ◌∙◌, ap, arith}
+use Rattle.std.proofs.Common.{◌≡◌, ◌==◌, ℕ, Bool, true, false, length, List, [], ◌∷◌, ◌++◌, Option, None, Some, map, refl, sym, ◌∙◌, ap, arith}
 use Rattle.std.specs.Prelude.{not, ◌&&◌, ◌||◌, is_none, is_some, bytes_eq, filter, flat_map, if◌then◌else◌}
 use Rattle.std.specs.List.{list_all, list_any, items_where_true}
 use Rattle.std.proofs.lemmas.List.Folds.{list_any-append, list_all-append}
+use Rattle.std.proofs.lemmas.Bool.{eqb-true}
 use Rattle.sudo_base.specs.NameIndices.{index_of}
 use Rattle.sudo_base.proofs.IndexLemmas.{index_of-append}
 use Rattle.sudo_text.specs.declared.line.Place.{Place}
@@ -99,6 +100,19 @@ left_granting marks (l ∷ ls) rest h = by l.granting refl h (left_granting mark
         → left_by marks ((l ∷ ls) ++ rest) ≡ (l ∷ ls) ++ left_by marks rest
     by true e k more = grind (arith, e, more k)
     by false e k more = cc
+
+-- where no marks are ahead all lists are left
+pub all_left : (ls : List MemberList) → left_by [] ls ≡ ls
+all_left [] = refl
+all_left (l ∷ ls) = by l.granting refl (all_left ls)
+  where
+    by : (g : Bool) → l.granting ≡ g → left_by [] ls ≡ ls → left_by [] (l ∷ ls) ≡ l ∷ ls
+    by true e more = grind (arith, e, more)
+    by false e more = grind (arith, e, more)
+
+pub none_ahead : (marks : List Bool) (ls : List MemberList) → (length marks == 0) ≡ true → left_by marks ls ≡ ls
+none_ahead [] ls h = all_left ls
+none_ahead (mark ∷ marks) ls h = absurd (omega (arith, eqb-true (length (mark ∷ marks)) 0 h))
 
 -- of the lists of a line's definitions those are left whose mark is false
 left_defined : (kind : Kind) (place : Place) (test : List ℕ → Bool) (marks : List Bool) (ds : List Definition) (rest : List MemberList)
@@ -204,3 +218,50 @@ added names more name other h is =
     by true (Some n) = refl
     by false None = refl
     by false (Some n) = refl
+
+-- ---- Policies without unused aliases
+
+-- findings of which none says that an alias is unused name none
+none_on : (kind : Kind) (name : List ℕ) (fs : List Finding) → list_any (λ (f : Finding). is_unused f.class) fs ≡ false
+    → list_any (is_on kind name) fs ≡ false
+none_on kind name [] h = refl
+none_on kind name (f ∷ fs) h = by (is_unused f.class) refl h (none_on kind name fs)
+  where
+    by : (b : Bool) → is_unused f.class ≡ b → (b || list_any (λ (g : Finding). is_unused g.class) fs) ≡ false
+        → (list_any (λ (g : Finding). is_unused g.class) fs ≡ false → list_any (is_on kind name) fs ≡ false)
+        → (is_on kind name f || list_any (is_on kind name) fs) ≡ false
+    by true e k rest = cc
+    by false e k rest = none (is_on kind name f) (list_any (is_on kind name) fs) (not_on kind name f e) (rest k)
+
+-- where no name is left out all definitions are kept
+all_kept : (q : List ℕ → Bool) → ((name : List ℕ) → q name ≡ false) → (ds : List Definition)
+    → ds ≡ filter (λ (d : Definition). not (q d.name)) ds
+all_kept q h [] = refl
+all_kept q h (d ∷ ds) = grind (arith, h d.name, all_kept q h ds)
+
+-- all lists of an entry decide
+all_in : (unused : List AliasDefinition) → ((kind : Kind) (name : List ℕ) → is_among unused kind name ≡ false)
+    → (place : Place) (body : EntryBody) → lists_of_body place body ≡ deciding_in unused place body
+all_in unused h place (entries.Aliases kind ds) = ap (lists_of_list kind place) (all_kept (is_among unused kind) (h kind) ds)
+all_in unused h place (entries.Defaults binding parameters) = refl
+all_in unused h place (entries.Rule users sections) = refl
+all_in unused h place (entries.Include folder hash path) = refl
+
+-- and of entries
+all_of : (unused : List AliasDefinition) → ((kind : Kind) (name : List ℕ) → is_among unused kind name ≡ false)
+    → (es : List Entry) → flat_map lists_of es ≡ flat_map (λ (e : Entry). deciding_in unused e.place e.body) es
+all_of unused h [] = refl
+all_of unused h (e ∷ es) =
+    ap (λ ls. ls ++ flat_map lists_of es) (all_in unused h e.place e.body)
+    ∙ ap (λ ls. deciding_in unused e.place e.body ++ ls) (all_of unused h es)
+
+-- where no finding says that an alias is unused all lists decide
+pub all_decide : (p : Policy) (fs : List Finding) (ls : List MemberList) → AreFindings p fs
+    → list_any (λ (f : Finding). is_unused f.class) fs ≡ false → ls ≡ lists p → AreDeciding p ls
+all_decide p fs ls are none is = record {
+  unused = are.unused;
+  unused_are = are.unused_are;
+  lists_are = is ∙ all_of (items_where_true are.unused (aliases p))
+      (λ kind name. sym (found_among kind name p are.cyclic are.deep are.wide are.unused)
+      ∙ sym (ap (list_any (is_on kind name)) are.list) ∙ none_on kind name fs none) p.entries;
+}

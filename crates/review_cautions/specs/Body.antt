@@ -2,3 +2,4 @@
 pub mod UnusedNames
 pub mod Looking
 pub mod Signs
+pub mod Deciding

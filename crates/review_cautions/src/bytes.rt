@@ -80,7 +80,7 @@ pub(crate) fn is_comment(line: &[u8]) -> bool
 pub(crate) fn has_byte(byte: u8, line: &[u8]) -> bool
     ensures { result ≡ list_any (λ b. b == byte) line.now }
 {
-    line.iter().any(|other| *other == byte)
+    memchr(byte, line).is_some()
 }
 
 // Returns the number of backslashes at the end of a line.

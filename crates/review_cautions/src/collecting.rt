@@ -3,6 +3,7 @@ ghost use Rattle.std.specs.Prelude.{◌≡◌, ◌++◌, IfOk, OnOk, map};
 ghost use Rattle.review_cautions.specs.Cautions as spec;
 ghost use Rattle.review_cautions.specs.Cautions.{AreCautionsOn};
 ghost use Rattle.review_cautions.specs.ListTests as lists_spec;
+ghost use Rattle.review_cautions.specs.Body.Deciding as body;
 ghost use Rattle.review_cautions.specs.Body.Looking.{scanned_view};
 
 use crate::defaults::push_defaults;
@@ -27,7 +28,7 @@ fn push_looked(
     found: &mut Vec<Caution>,
 ) -> Result<(), AllocError>
     ensures { OnOk result (found.new.items ≡ found.old.items ++ spec.class_cautions class
-        (map scanned_view looked.now.all.items) (map scanned_view looked.now.deciding.items)) }
+        (map scanned_view looked.now.all.lists.items) (body.deciding looked.now)) }
 {
     push_lists(alloc, class, looked.lists(class), found)
 }
@@ -76,8 +77,8 @@ pub fn cautions_by_links(
         (map (λ t. t.now) texts.now) policy.now found.items) }
 {
     let all = scanned_lists(alloc, lists(alloc, policy)?)?;
-    let deciding = deciding_lists(alloc, policy, &all)?;
-    let looked = LookedLists::of(alloc, all, deciding)?;
+    let left = deciding_lists(alloc, policy, &all)?;
+    let looked = LookedLists::of(alloc, all, left)?;
     let entries = policy.entries.as_slice();
     let mut found = Vec::new(alloc);
     push_all_texts(alloc, texts, &mut found)?;
@@ -86,7 +87,7 @@ pub fn cautions_by_links(
     push_looked(alloc, CautionClass::Case, &looked, &mut found)?;
     push_looked(alloc, CautionClass::QuotedHost, &looked, &mut found)?;
     push_looked(alloc, CautionClass::QuotedEscape, &looked, &mut found)?;
-    push_linked(alloc, links, &looked.deciding, &mut found)?;
+    push_linked(alloc, links, looked.deciding_lists(), &mut found)?;
     push_defaults(alloc, entries, &mut found)?;
     push_unknown(alloc, entries, &mut found)?;
     push_looked(alloc, CautionClass::Sudoedit, &looked, &mut found)?;

@@ -1,8 +1,9 @@
 //! Comments that are none for sudo: a number stands behind the `#`.
-ghost use Rattle.std.specs.Prelude.{◌≡◌, false, true};
+ghost use Rattle.std.specs.Prelude.{◌≡◌, ◌&&◌, ◌==◌, false, not, true};
+ghost use Rattle.std.specs.List.{list_any};
 ghost use Rattle.review_cautions.specs.PhysicalLines as spec;
 
-use crate::bytes::{is_blank, is_digit, peek};
+use crate::bytes::{has_byte, is_blank, is_digit, peek};
 use memchr::memchr;
 
 // Whether an ID may stand behind a byte.
@@ -31,6 +32,21 @@ fn begins_no_comment(bytes: &[u8]) -> bool
     }
 }
 
+// Whether a byte before these ones begins a comment here: a `#` that is not escaped, not quoted, and begins no ID.
+fn begins_comment(escaped: bool, quoted: bool, admitted: bool, byte: u8, after: &[u8]) -> bool
+    ensures { result ≡ (not escaped && ((byte == 35) && not quoted
+        && not (admitted && spec.begins_with_digit after.now))) }
+{
+    !escaped && byte == b'#' && !quoted && !(admitted && is_digit(peek(after, 0)))
+}
+
+// Whether a byte is a `#`, and none stands in the bytes behind it.
+fn is_last_hash(byte: u8, after: &[u8]) -> bool
+    ensures { result ≡ ((byte == 35) && not (list_any (λ b. b == 35) after.now)) }
+{
+    byte == b'#' && !has_byte(b'#', after)
+}
+
 // Whether the first `#` that begins a comment here begins none for sudo, in a line that has a `#`.
 fn first_comment_is_other(line: &[u8]) -> bool
     ensures { result ≡ spec.has_other_comment false false true line.now }
@@ -41,8 +57,11 @@ fn first_comment_is_other(line: &[u8]) -> bool
     let mut rest = line;
     while let [byte, after @ ..] = rest {
         let byte = *byte;
-        if !escaped && byte == b'#' && !quoted && !(admitted && is_digit(peek(after, 0))) {
+        if begins_comment(escaped, quoted, admitted, byte, after) {
             return begins_no_comment(after);
+        }
+        if is_last_hash(byte, after) {
+            return false;
         }
         quoted = quoted != (!escaped && byte == b'"');
         admitted = !escaped && (admits_id(byte) || (admitted && is_blank(byte)));

@@ -19,6 +19,7 @@ mod lines;
 mod link;
 mod lists;
 mod looked;
+mod marked;
 mod marks;
 mod passwords;
 mod reserved;

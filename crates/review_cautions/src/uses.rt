@@ -6,8 +6,10 @@ ghost use Rattle.sudo_grammar.specs.Kinds.{same_kind};
 ghost use Rattle.sudo_grammar.specs.declared.kind.Kind.{Kind};
 ghost use Rattle.sudo_policy.specs.Definitions as policies;
 ghost use Rattle.sudo_policy.specs.Definitions.{list_view};
+ghost use Rattle.sudo_policy.specs.Found.{AreFindings};
 ghost use Rattle.review_cautions.specs.Uses.{AreDeciding};
 ghost use Rattle.review_cautions.specs.Body.Looking.{scanned_view};
+ghost use Rattle.review_cautions.specs.Body.Deciding as deciding;
 ghost use Rattle.review_cautions.specs.Body.UnusedNames as body;
 
 use crate::scanned::ScannedList;
@@ -52,11 +54,18 @@ fn is_same_kind(one: Kind, other: Kind) -> bool
     }
 }
 
+// Whether a finding says that an alias is unused.
+fn is_on_unused(finding: &Finding) -> bool
+    ensures { result ≡ body.is_unused finding.now.class }
+{
+    matches!(finding.class, Class::Unused)
+}
+
 // Whether a finding says that an alias of a kind is unused.
 fn is_of_kind(kind: Kind, finding: &Finding) -> bool
     ensures { result ≡ body.is_of_kind kind finding.now }
 {
-    matches!(finding.class, Class::Unused) && is_same_kind(kind, finding.kind)
+    is_on_unused(finding) && is_same_kind(kind, finding.kind)
 }
 
 // Adds a name, which may be there.
@@ -179,26 +188,57 @@ fn left_by<'a>(
 {
     let mut left = Vec::with_capacity(alloc, lists.len())?;
     let mut ahead = marks;
-    for list in lists {
+    let mut rest = lists;
+    while let [list, behind @ ..] = rest {
+        if ahead.is_empty() {
+            left.extend_from_slice(rest)?;
+            return Ok(left);
+        }
         if !is_left_out(ahead, &list.list) {
             left.push(*list)?;
         }
         ahead = marks_behind(ahead, &list.list);
+        rest = behind;
     }
     Ok(left)
 }
 
-/// Returns those of the lists of a policy that decide. Returns `AllocError` if allocation failed.
+// Whether one of the findings says so.
+fn find_unused(findings: &[Finding]) -> bool
+    ensures { result ≡ list_any (λ f. body.is_unused f.class) findings.now }
+{
+    findings.iter().any(|finding| is_on_unused(finding))
+}
+
+// Returns the lists of a policy but for those of the definitions of aliases that are unused by these findings.
+fn left_behind<'a>(
+    alloc: Global,
+    policy: &Policy,
+    findings: &[Finding],
+    lists: &[ScannedList<'a>],
+) -> Result<Vec<ScannedList<'a>>, AllocError>
+    requires all { map scanned_view lists.now ≡ policies.lists policy.now }
+    requires found { AreFindings policy.now findings.now }
+    ensures { IfOk result (λ left. AreDeciding policy.now (map scanned_view left.items)) }
+{
+    let unused = unused_names(alloc, findings)?;
+    let marks = marks_of(alloc, &unused, policy.entries.as_slice())?;
+    left_by(alloc, lists, &marks)
+}
+
+/// Returns those of the lists of a policy that decide, and `None` if all do. Returns `AllocError` if allocation failed.
 pub(crate) fn deciding_lists<'a>(
     alloc: Global,
     policy: &Policy,
     lists: &[ScannedList<'a>],
-) -> Result<Vec<ScannedList<'a>>, AllocError>
+) -> Result<Option<Vec<ScannedList<'a>>>, AllocError>
     requires { map scanned_view lists.now ≡ policies.lists policy.now }
-    ensures { IfOk result (λ deciding. AreDeciding policy.now (map scanned_view deciding.items)) }
+    ensures { IfOk result (λ left. AreDeciding policy.now
+        (deciding.lists_left left (map scanned_view lists.now))) }
 {
     let found = findings(alloc, policy)?;
-    let unused = unused_names(alloc, &found)?;
-    let marks = marks_of(alloc, &unused, policy.entries.as_slice())?;
-    left_by(alloc, lists, &marks)
+    if find_unused(&found) {
+        return Ok(Some(left_behind(alloc, policy, &found, lists)?));
+    }
+    Ok(None)
 }
