@@ -69,9 +69,10 @@ pub none_behind_first : (escaped quoted admitted : Bool) (bs : List ℕ)
     → list_any (λ c. c == 35) (take (length bs - 1) (drop 1 bs)) ≡ false → has_other_comment escaped quoted admitted bs ≡ false
 none_behind_first escaped quoted admitted [] none rest = refl
 none_behind_first escaped quoted admitted (b ∷ bs) none rest =
+    let all : bs ≡ take (length (b ∷ bs) - 1) bs = sym (take_all (length (b ∷ bs) - 1) bs (omega arith)) in
     none_behind escaped quoted admitted b bs
-    (ap (λ cs. not escaped && ((b == 35) && not quoted && not (admitted && begins_with_digit cs))) (sym (take_all (length (b ∷ bs) - 1) bs (omega arith))) ∙ none)
-    (ap (list_any (λ c. c == 35)) (sym (take_all (length (b ∷ bs) - 1) bs (omega arith))) ∙ rest)
+    (ap (λ cs. not escaped && ((b == 35) && not quoted && not (admitted && begins_with_digit cs))) all ∙ none)
+    (ap (list_any (λ c. c == 35)) all ∙ rest)
 
 -- a byte is a `#`, and none stands behind it
 pub is_last : (a b : Bool) → (a && not b) ≡ true → b ≡ false

@@ -1,5 +1,6 @@
 -- What the marks of unused aliases leave of the lists of a policy are those that decide.
-use Rattle.std.proofs.Common.{◌≡◌, ◌==◌, ℕ, Bool, true, false, length, List, [], ◌∷◌, ◌++◌, Option, None, Some, map, refl, sym, ◌∙◌, ap, arith}
+use Rattle.std.proofs.Common.{◌≡◌, ◌==◌, ℕ, Bool, true, false, length, List, [], ◌∷◌, ◌++◌, Option, None, Some, map, refl, sym}
+use Rattle.std.proofs.Common.{◌∙◌, ap, arith}
 use Rattle.std.specs.Prelude.{not, ◌&&◌, ◌||◌, is_none, is_some, bytes_eq, filter, flat_map, if◌then◌else◌}
 use Rattle.std.specs.List.{list_all, list_any, items_where_true}
 use Rattle.std.proofs.lemmas.List.Folds.{list_any-append, list_all-append}
