@@ -48,7 +48,8 @@ class_text TornMark = codes "lines are joined where sudo does not join them: rea
 class_text IncludeEscape =
     codes "an include line has a backslash: read here as everywhere, for sudo a part of the path"
 class_text IncludeIndent = codes "blanks stand before #include: the file is read here, for sudo the line is a comment"
-class_text Comment = codes "a number stands behind the # of a comment: a comment here, for sudo an ID, which it mostly refuses there"
+class_text Comment =
+    codes "a number or a carriage return stands behind the # of a comment: a comment here, none for sudo, which mostly refuses the line"
 class_text Caret = codes "`[^` begins a bracket: `^` is one of its characters here, for sudo a complement"
 class_text Escape = codes "an escape is read otherwise by sudo: as a wildcard, as an ID, as two characters, or refused"
 class_text Case = codes "a name has a capital letter: letter case counts here, not for sudo"

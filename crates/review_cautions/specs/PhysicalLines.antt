@@ -1,11 +1,12 @@
 -- Constructs of physical lines: what ends them, and what their joins to the next line tear apart. sudoers(5), "Other
--- special characters and reserved words".
-use Rattle.std.specs.Prelude.{ℕ, Bool, true, false, not, ◌&&◌, ◌||◌, ◌==◌, nat_lt, nat_le, if◌then◌else◌, List, [], ◌∷◌, ◌++◌}
-use Rattle.std.specs.Prelude.{reverse, length, take, slice_index, codes, nat_eq, ◌+◌, ◌-◌}
+-- special characters and reserved words"; of tags torn apart and of comments also sudo's plugins/sudoers/toke.l.
+use Rattle.std.specs.Prelude.{ℕ, Bool, true, false, not, ◌&&◌, ◌||◌, ◌==◌, nat_lt, if◌then◌else◌, List, [], ◌∷◌, ◌++◌}
+use Rattle.std.specs.Prelude.{reverse, length, take, drop, slice_index, codes, nat_eq, ◌+◌, ◌-◌}
 use Rattle.std.specs.List.{list_any, take_while, starts_with}
 use Rattle.std.specs.Str.{bytes_eq}
 use Rattle.sudo_text.specs.Bytes.{is_blank, is_digit, is_include}
 use Rattle.sudo_text.specs.Lines.{without_return, without_indent, without_escape, is_comment, ends_in_escape, is_continued}
+use Rattle.review_cautions.specs.ReservedNames.{is_tag}
 use Rattle.review_cautions.specs.declared.class.CautionClass.{CautionClass}
 use Rattle.review_cautions.specs.declared.class.CautionClass.TheVariants.{Return, BlankAfterBackslash, Join, TornMark}
 use Rattle.review_cautions.specs.declared.class.CautionClass.TheVariants.{IncludeEscape, IncludeIndent, Comment}
@@ -68,13 +69,30 @@ is_keyword line =
     bytes_eq line (codes "Defaults") || bytes_eq line (codes "Defaults@") || bytes_eq line (codes "Defaults:")
     || bytes_eq line (codes "Defaults!") || bytes_eq line (codes "Defaults>")
 
--- a capital letter, as in a tag's name, is the last byte, and a colon the first one of the next line
-abbrev pub tears_tag : List ℕ → List ℕ → Bool
-tears_tag line next = nat_le 65 (last_byte line) && nat_le (last_byte line) 90 && (slice_index next 0 == 58)
+-- the line without the blanks at its end
+abbrev pub without_end_blanks : List ℕ → List ℕ
+without_end_blanks line = take (length line - end_blanks line) line
 
--- a `!` is the last byte, and another one the first one of the next line
+-- the number of bytes at the end of a line that belong to one word
+abbrev pub end_word_length : List ℕ → ℕ
+end_word_length line = length (take_while (λ b. not (parts_words false b)) (reverse line))
+
+-- the word at the end of a line
+abbrev pub end_word : List ℕ → List ℕ
+end_word line = drop (length line - end_word_length line) line
+
+-- the line begins with the byte, or has nothing but a backslash, behind which a further line may begin with it
+abbrev pub may_begin : ℕ → List ℕ → Bool
+may_begin byte line = (slice_index line 0 == byte) || bytes_eq line (92 ∷ [])
+
+-- the name of a tag is the last word, with blanks behind it or none, and the next line may begin with its colon: sudo
+-- reads both as a tag on one line alone
+abbrev pub tears_tag : List ℕ → List ℕ → Bool
+tears_tag line next = is_tag (end_word (without_end_blanks line)) && may_begin 58 next
+
+-- a `!` is the last byte, and the next line may begin with another
 abbrev pub tears_bangs : List ℕ → List ℕ → Bool
-tears_bangs line next = (last_byte line == 33) && (slice_index next 0 == 33)
+tears_bangs line next = (last_byte line == 33) && may_begin 33 next
 
 -- a percent sign, as before the name of a group, is the last byte
 abbrev pub tears_group : List ℕ → Bool
@@ -122,15 +140,20 @@ abbrev pub admits_id : ℕ → Bool
 admits_id b =
     (b == 33) || (b == 44) || (b == 40) || (b == 58) || (b == 61) || (b == 64) || (b == 62) || (b == 37)
 
--- the bytes are empty, or begin with a digit
-abbrev pub is_empty_or_number : List ℕ → Bool
-is_empty_or_number [] = true
-is_empty_or_number (b ∷ bs) = is_digit b
+-- a digit or a carriage return
+abbrev pub is_digit_or_return : ℕ → Bool
+is_digit_or_return b = is_digit b || (b == 13)
 
--- for sudo no comment begins with a `#` and these bytes: a digit, or a minus sign and then a digit or nothing
+-- the bytes are empty, or begin with a digit or a carriage return
+abbrev pub is_empty_or_digit_or_return : List ℕ → Bool
+is_empty_or_digit_or_return [] = true
+is_empty_or_digit_or_return (b ∷ bs) = is_digit_or_return b
+
+-- for sudo no comment begins with a `#` and these bytes, where a carriage return at the end of the line is not one of them:
+-- a digit or a carriage return, or a minus sign and then one of the two or nothing
 abbrev pub begins_no_comment : List ℕ → Bool
 begins_no_comment [] = false
-begins_no_comment (b ∷ bs) = is_digit b || ((b == 45) && is_empty_or_number bs)
+begins_no_comment (b ∷ bs) = is_digit_or_return b || ((b == 45) && is_empty_or_digit_or_return bs)
 
 -- the first byte is a digit
 abbrev pub begins_with_digit : List ℕ → Bool

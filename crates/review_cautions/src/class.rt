@@ -17,7 +17,7 @@ pub enum CautionClass {
     IncludeEscape,
     /// An include line that begins with `#` behind blanks.
     IncludeIndent,
-    /// A comment whose `#` stands before a number.
+    /// A comment whose `#` stands before a number or a carriage return.
     Comment,
     /// A bracket of a pattern that begins with `^`.
     Caret,
@@ -106,7 +106,7 @@ impl CautionClass {
                 b"blanks stand before #include: the file is read here, for sudo the line is a comment"
             }
             CautionClass::Comment => {
-                b"a number stands behind the # of a comment: a comment here, for sudo an ID, which it mostly refuses there"
+                b"a number or a carriage return stands behind the # of a comment: a comment here, none for sudo, which mostly refuses the line"
             }
             CautionClass::Caret => {
                 b"`[^` begins a bracket: `^` is one of its characters here, for sudo a complement"

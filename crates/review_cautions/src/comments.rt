@@ -1,4 +1,4 @@
-//! Comments that are none for sudo: a number stands behind the `#`.
+//! Comments that are none for sudo: a number or a carriage return stands behind the `#`.
 ghost use Rattle.std.specs.Prelude.{◌≡◌, ◌&&◌, ◌==◌, false, not, true};
 ghost use Rattle.std.specs.List.{list_any};
 ghost use Rattle.review_cautions.specs.PhysicalLines as spec;
@@ -20,6 +20,13 @@ fn admits_id(byte: u8) -> bool
         || byte == b'%'
 }
 
+// Whether a byte is a digit or a carriage return.
+fn is_digit_or_return(byte: u8) -> bool
+    ensures { result ≡ spec.is_digit_or_return byte }
+{
+    is_digit(byte) || byte == b'\r'
+}
+
 // Whether no comment begins with a `#` and these bytes, for sudo.
 fn begins_no_comment(bytes: &[u8]) -> bool
     ensures { result ≡ spec.begins_no_comment bytes.now }
@@ -27,8 +34,8 @@ fn begins_no_comment(bytes: &[u8]) -> bool
     match bytes {
         [] => false,
         [b'-'] => true,
-        [b'-', next, ..] => is_digit(*next),
-        [first, ..] => is_digit(*first),
+        [b'-', next, ..] => is_digit_or_return(*next),
+        [first, ..] => is_digit_or_return(*first),
     }
 }
 

@@ -1,10 +1,11 @@
 //! What the join of a physical line to the next one tears apart. Lines are given as the reader joins them: without a
 //! carriage return at their ends and blanks at their fronts.
-ghost use Rattle.std.specs.Prelude.{◌≡◌};
+ghost use Rattle.std.specs.Prelude.{◌≡◌, ◌≤◌, length};
 ghost use Rattle.sudo_text.specs.Lines.{without_escape as without_escape_of};
 ghost use Rattle.review_cautions.specs.PhysicalLines as spec;
 
-use crate::bytes::{ends_in_escape, is_blank, is_text, peek};
+use crate::bytes::{end_blank_count, ends_in_escape, is_blank, is_text, peek};
+use crate::reserved::is_tag;
 
 /// Whether a slash stands in a line, and so a command may.
 pub(crate) fn has_slash(line: &[u8]) -> bool
@@ -71,19 +72,50 @@ fn is_keyword(line: &[u8]) -> bool
         || is_text(line, b"Defaults>")
 }
 
-// Whether a line ends as the name of a tag may, and the next one begins with a colon.
+// Returns a line without the blanks at its end.
+fn without_end_blanks(line: &[u8]) -> &[u8]
+    ensures { result.now ≡ spec.without_end_blanks line.now }
+{
+    &line[..line.len() - end_blank_count(line)]
+}
+
+// Returns the number of bytes at the end of a line that belong to one word.
+fn end_word_length(line: &[u8]) -> usize
+    ensures count { result ≡ spec.end_word_length line.now }
+    ensures within { result ≤ length line.now }
+{
+    line.iter()
+        .rev()
+        .take_while(|byte| !parts_words(false, **byte))
+        .count()
+}
+
+// Returns the word at the end of a line.
+fn end_word(line: &[u8]) -> &[u8]
+    ensures { result.now ≡ spec.end_word line.now }
+{
+    &line[line.len() - end_word_length(line)..]
+}
+
+// Whether a line begins with a byte, or has nothing but a backslash.
+fn may_begin(byte: u8, line: &[u8]) -> bool
+    ensures { result ≡ spec.may_begin byte line.now }
+{
+    peek(line, 0) == byte || is_text(line, b"\\")
+}
+
+// Whether a line ends in the name of a tag, and blanks or none, and the next one may begin with its colon.
 fn tears_tag(line: &[u8], next: &[u8]) -> bool
     ensures { result ≡ spec.tears_tag line.now next.now }
 {
-    let last = last_byte(line);
-    b'A' <= last && last <= b'Z' && peek(next, 0) == b':'
+    may_begin(b':', next) && is_tag(end_word(without_end_blanks(line)))
 }
 
-// Whether a line ends in `!`, and the next one begins with another.
+// Whether a line ends in `!`, and the next one may begin with another.
 fn tears_bangs(line: &[u8], next: &[u8]) -> bool
     ensures { result ≡ spec.tears_bangs line.now next.now }
 {
-    last_byte(line) == b'!' && peek(next, 0) == b'!'
+    last_byte(line) == b'!' && may_begin(b'!', next)
 }
 
 // Whether a line ends in a percent sign, as before the name of a group.

@@ -32,8 +32,8 @@ fn define_option(definitions: &[Definition]) -> bool
         .any(|definition| is_option(definition.name.as_slice()))
 }
 
-// Whether a name is that of a tag.
-fn is_tag(name: &[u8]) -> bool
+/// Whether a name is that of a tag.
+pub(crate) fn is_tag(name: &[u8]) -> bool
     ensures { result ≡ spec.is_tag name.now }
 {
     is_text(name, b"EXEC")
