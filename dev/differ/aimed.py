@@ -116,7 +116,7 @@ def _join(aim: Aim) -> Aimed:
 
 def _torn_mark(aim: Aim) -> Aimed:
     tag = aim.pick("PASSWD", "EXEC", "SETENV", "MAIL", "NOEXEC", "FOLLOW")
-    said = aim.pick(f"{tag}\\\n: {aim.command}", f"!\\\n! {aim.command}")
+    said = aim.pick(f"{tag}{aim.pick('', ' ')}\\\n: {aim.command}", f"!\\\n! {aim.command}")
     return Aimed(aim.rule(said), (aim.ask(),))
 
 
@@ -140,7 +140,7 @@ def _include_indent(aim: Aim) -> Aimed:
 
 
 def _comment(aim: Aim) -> Aimed:
-    number = aim.pick("5", "-1", "42 note", "7,8", "-")
+    number = aim.pick("5", "-1", "42 note", "7,8", "-", "\rx")
     return Aimed(aim.rule(f"{aim.pick(aim.command, 'ALL')}{aim.pick('', ' ')}#{number}"), (aim.ask(),))
 
 

@@ -93,7 +93,7 @@ ROWS = {
     "join": ("alice ALL = /bin/ls\\",),
     "include-escape": ("@include /x/a\\x62", '@include "/x/a\\x62"'),
     "include-indent": (" #include /etc/x",),
-    "comment": ("#-1 ALL = ALL", "alice ALL = /bin/ls #5", "#-"),
+    "comment": ("#-1 ALL = ALL", "alice ALL = /bin/ls #5", "#-", "alice ALL = ALL #<CR>x"),
     "caret": ("alice ALL = /usr/bin/passwd [^-]*",),
     "escape": (
         "alice ALL = /bin/ls a\\\\b",

@@ -541,6 +541,7 @@ FILES = (
     Row("bo\\<TAB>b ALL = ALL", swapped("*", "word", r"\\\t", "z")),
     Row("alice ALL = /bin/ls #5", swapped("*", "comment", r"^#(?=-?[0-9])", "# ")),
     Row("#-", replaced("#-$", "#")),
+    Row("alice ALL = ALL #<CR>x", replaced(r"#-?\r(?!\n|\Z)", "# ")),
     Row("a>b ALL = ALL", swapped(LISTS, "word", ">", "z")),
     Row("^a$ ALL = ALL", swapped(LISTS, "word", r"^\^", "z")),
     Row("10.1.2.3 ALL = ALL", swapped("user runas", "word", r"^[0-9.]+(/.*)?$", "zz")),

@@ -132,7 +132,9 @@ GRANTS = [
 def policy_of(cell: str) -> str | None:
     """Returns the policy that the first cell of a row shows, or `None` if it shows none."""
     lines = CODE.findall(cell)
-    if "<TAB>" in cell or not cell.startswith("lines `") and len(lines) != 1 or not re.match(r"(lines )?`[\w@#!\"%^]", cell):
+    if re.search("<(TAB|CR)>", cell) or not cell.startswith("lines `") and len(lines) != 1:
+        return None
+    if not re.match(r"(lines )?`[\w@#!\"%^]", cell):
         return None
     return "\n".join(lines) + "\n"
 

@@ -82,7 +82,7 @@ def marked_rows() -> Iterator[tuple[str, str, str]]:
 def policy_of(cell: str) -> str:
     """Returns the policy that a cell shows: its lines, or the first text that it shows."""
     lines = CODE.findall(cell)
-    text = "\n".join(lines if cell.startswith("lines ") else lines[:1]).replace("<TAB>", "\t")
+    text = "\n".join(lines if cell.startswith("lines ") else lines[:1]).replace("<TAB>", "\t").replace("<CR>", "\r")
     return text + ("\r\n" if "with CR LF" in cell else "\n") + ("\n" if "and an empty line" in cell else "")
 
 

@@ -49,7 +49,7 @@ class_text IncludeEscape =
     codes "an include line has a backslash: read here as everywhere, for sudo a part of the path"
 class_text IncludeIndent = codes "blanks stand before #include: the file is read here, for sudo the line is a comment"
 class_text Comment =
-    codes "a number or a carriage return stands behind the # of a comment: a comment here, none for sudo, which mostly refuses the line"
+    codes "a number or a carriage return stands behind the # of a comment: a comment here, none for sudo, which mostly refuses it"
 class_text Caret = codes "`[^` begins a bracket: `^` is one of its characters here, for sudo a complement"
 class_text Escape = codes "an escape is read otherwise by sudo: as a wildcard, as an ID, as two characters, or refused"
 class_text Case = codes "a name has a capital letter: letter case counts here, not for sudo"

@@ -106,7 +106,7 @@ impl CautionClass {
                 b"blanks stand before #include: the file is read here, for sudo the line is a comment"
             }
             CautionClass::Comment => {
-                b"a number or a carriage return stands behind the # of a comment: a comment here, none for sudo, which mostly refuses the line"
+                b"a number or a carriage return stands behind the # of a comment: a comment here, none for sudo, which mostly refuses it"
             }
             CautionClass::Caret => {
                 b"`[^` begins a bracket: `^` is one of its characters here, for sudo a complement"
