@@ -98,6 +98,24 @@ fn arguments_filled(
     }
 }
 
+/// Whether sudo can be asked for the command with these arguments: `sudoedit` needs a file.
+pub(crate) fn can_be_asked(command: &[u8], arguments: &[u8]) -> bool {
+    command != b"sudoedit".as_slice() || !arguments.is_empty()
+}
+
+// Returns the arguments, or a file where the command needs one and none is given.
+fn asked_arguments(
+    alloc: Global,
+    command: &[u8],
+    arguments: Vec<u8>,
+) -> Result<Vec<u8>, AllocError> {
+    if can_be_asked(command, &arguments) {
+        Ok(arguments)
+    } else {
+        Vec::from_slice(alloc, b"/x")
+    }
+}
+
 /// Returns the command with arguments that the command of a policy fits, with this in place of each star. Returns `AllocError` if
 /// allocation fails.
 pub(crate) fn own_candidate(
@@ -106,10 +124,12 @@ pub(crate) fn own_candidate(
     fill: &[u8],
 ) -> Result<Candidate, AllocError> {
     match &shape.atom {
-        Atom::Command { args, .. } => Ok(Candidate {
-            command: filled(alloc, shape.path(), fill)?,
-            arguments: arguments_filled(alloc, args, fill)?,
-        }),
+        Atom::Command { args, .. } => {
+            let command = filled(alloc, shape.path(), fill)?;
+            let given = arguments_filled(alloc, args, fill)?;
+            let arguments = asked_arguments(alloc, &command, given)?;
+            Ok(Candidate { command, arguments })
+        }
         _ => Ok(Candidate {
             command: Vec::from_slice(alloc, b"/bin/sh")?,
             arguments: Vec::from_slice(alloc, fill)?,

@@ -4,7 +4,9 @@ ghost use Rattle.review_compare.specs.Body.Fitting.{AreFitting};
 ghost use Rattle.review_compare.specs.Body.Shown.{IsShownWitness};
 
 use crate::answer::Answer;
-use crate::candidates::{Candidate, FILLS, given_texts, own_candidate, own_path, rare_candidate};
+use crate::candidates::{
+    Candidate, FILLS, can_be_asked, given_texts, own_candidate, own_path, rare_candidate,
+};
 use crate::changed::Changed;
 use crate::fitting::{Fitting, may_fit};
 use crate::ruling::Ruled;
@@ -45,6 +47,9 @@ fn try_text(
         changed.now.all_new.now) found.old.items → All (IsShownWitness
         changed.now.all_old.now changed.now.all_new.now) found.new.items) }
 {
+    if !can_be_asked(&text.command, &text.arguments) {
+        return Ok(());
+    }
     match changed.witness(alloc, text)? {
         Some(witness) => push_witness(changed, witness, found),
         None => Ok(()),
@@ -83,6 +88,9 @@ fn try_arguments(
         changed.entry.now.all_new.now) found.old.items → All (IsShownWitness
         changed.entry.now.all_old.now changed.entry.now.all_new.now) found.new.items) }
 {
+    if !can_be_asked(command, arguments) {
+        return Ok(());
+    }
     match fitting.witness(alloc, changed, command, arguments)? {
         Some(witness) => push_witness(changed, witness, found),
         None => Ok(()),
