@@ -98,9 +98,9 @@ fn arguments_filled(
     }
 }
 
-/// Whether sudo can be asked for the command with these arguments: `sudoedit` needs a file.
+/// Whether sudo can be asked for the command with these arguments: a command has a name, and `sudoedit` needs a file.
 pub(crate) fn can_be_asked(command: &[u8], arguments: &[u8]) -> bool {
-    command != b"sudoedit".as_slice() || !arguments.is_empty()
+    !command.is_empty() && (command != b"sudoedit".as_slice() || !arguments.is_empty())
 }
 
 // Returns the arguments, or a file where the command needs one and none is given.
@@ -140,7 +140,10 @@ pub(crate) fn own_candidate(
 /// Returns a command by a path that the command of a policy fits, with an `x` in place of each star. Returns `AllocError` if
 /// allocation fails.
 pub(crate) fn own_path(alloc: Global, shape: &Shape) -> Result<Vec<u8>, AllocError> {
-    filled(alloc, shape.path(), b"x")
+    match &shape.atom {
+        Atom::Command { .. } => filled(alloc, shape.path(), b"x"),
+        _ => Vec::from_slice(alloc, b"/bin/sh"),
+    }
 }
 
 /// Returns a command that few patterns fit. Returns `AllocError` if allocation fails.
