@@ -154,8 +154,9 @@ host-more p rows new user host scope asked so_far one =
 pub hosts-none : (p : Pair) (scope : Option Machine) (user : ℕ) (asked : Ask → Type 0) → Progress p [] [] (IsBefore p scope user 0 asked)
 hosts-none p scope user asked = started p [] (IsBefore p scope user 0 asked) (λ c at. omega (arith, at.1))
 
-pub hosts-all : (p : Pair) (rows : List Row) (scope : Option Machine) (user n : ℕ) (asked : Ask → Type 0) → length p.directory.now.machines ≤ n →
-    Progress p [] rows (IsBefore p scope user n asked) → Progress p [] rows (IsOnEach p scope user asked)
+pub hosts-all : (p : Pair) (rows : List Row) (scope : Option Machine) (user n : ℕ) (asked : Ask → Type 0) →
+    length p.directory.now.machines ≤ n → Progress p [] rows (IsBefore p scope user n asked) →
+    Progress p [] rows (IsOnEach p scope user asked)
 hosts-all p rows scope user n asked all so_far = record {
   kept = so_far.kept;
   right = so_far.right;

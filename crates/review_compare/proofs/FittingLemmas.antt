@@ -1,5 +1,6 @@
 -- The near rows whose paths fit a command decide it, with any arguments.
-use Rattle.std.proofs.Common.{◌≡◌, ◌∙◌, ◌⊎◌, inl, inr, ℕ, Bool, true, false, cond, List, [], ◌∷◌, sym, Option, None, Some, Result, Ok, Err, ap, refl}
+use Rattle.std.proofs.Common.{◌≡◌, ◌∙◌, ◌⊎◌, inl, inr, ℕ, Bool, true, false, cond, List}
+use Rattle.std.proofs.Common.{[], ◌∷◌, sym, Option, None, Some, Result, Ok, Err, ap, refl}
 use Rattle.std.specs.Prelude.{filter, IfOk, IfSome}
 use Rattle.std.proofs.lemmas.Bool.{and_parts, or_cases, or_left, or_right}
 use Rattle.sudo_grammar.specs.declared.kind.Atom.{Atom}

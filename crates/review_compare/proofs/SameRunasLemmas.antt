@@ -1,5 +1,6 @@
 -- Positions and answers of blocks with the same runas, one further.
-use Rattle.std.proofs.Common.{◌≡◌, ◌<◌, ◌+◌, ◌∙◌, ◌⊎◌, inl, inr, ℕ, Bool, List, [], ◌∷◌, ◌++◌, ap, arith, sym, subst, get_or, length, length-append}
+use Rattle.std.proofs.Common.{◌≡◌, ◌<◌, ◌+◌, ◌∙◌, ◌⊎◌, inl, inr, ℕ, Bool, List}
+use Rattle.std.proofs.Common.{[], ◌∷◌, ◌++◌, ap, arith, sym, subst, get_or, length, length-append}
 use Rattle.std.proofs.lemmas.List.{get_or_append_left, get_or_push}
 use Rattle.sudo_grammar.specs.declared.policy.Policy.{Policy}
 use Rattle.sudo_verdict.specs.Questions.{Question}

@@ -30,9 +30,11 @@ returns c =
     c.deref-3.ensures.value ∙ ap (λ (q : Question). new_at q l.new.items) asked in
     record {
       old = λ m.
-          near-stood p.old.checked.now p.old.blocks.items d u first m t g p.near.old.items l.old.items c.requires.listed.old c.requires.listed.old_each
+          near-stood p.old.checked.now p.old.blocks.items d u first m t g p.near.old.items l.old.items c.requires.listed.old
+          c.requires.listed.old_each
           ∙ ap (λ (is : List ℕ). chosen p.old.blocks.items (filter (host_at p.old.checked.now p.old.blocks.items m) is)) (sym old);
       new = λ m.
-          near-stood p.new.checked.now p.new.blocks.items d u first m t g p.near.new.items l.new.items c.requires.listed.new c.requires.listed.new_each
+          near-stood p.new.checked.now p.new.blocks.items d u first m t g p.near.new.items l.new.items c.requires.listed.new
+          c.requires.listed.new_each
           ∙ ap (λ (is : List ℕ). chosen p.new.blocks.items (filter (host_at p.new.checked.now p.new.blocks.items m) is)) (sym new);
     }

@@ -6,16 +6,16 @@ use Rattle.review_compare.proofs.differences.add_host.Goals as goal
 
 pub returns-then-not-is_this_host : goal.returns-then-not-is_this_host
 returns-then-not-is_this_host c = record {
-  added = other-host c.args.pair.now c.args.rows.now.items c.args.spot (option_copied c.args.scope) (HaveAsk c.args.asked.now) c.requires.spot
-      (sym c.is_this_host.ensures ∙ c.if-not-is_this_host.true);
+  added = other-host c.args.pair.now c.args.rows.now.items c.args.spot (option_copied c.args.scope) (HaveAsk c.args.asked.now)
+      c.requires.spot (sym c.is_this_host.ensures ∙ c.if-not-is_this_host.true);
   classes = c.requires.classes;
   right = c.requires.right;
 }
 
 pub returns-then-not-may_differ_on : goal.returns-then-not-may_differ_on
 returns-then-not-may_differ_on c = record {
-  added = same-on-host c.args.pair.now c.args.rows.now.items c.args.spot (option_copied c.args.scope) (HaveAsk c.args.asked.now) c.requires.spot
-      (c.may_differ_on.ensures c.if-not-may_differ_on.true);
+  added = same-on-host c.args.pair.now c.args.rows.now.items c.args.spot (option_copied c.args.scope) (HaveAsk c.args.asked.now)
+      c.requires.spot (c.may_differ_on.ensures c.if-not-may_differ_on.true);
   classes = c.requires.classes;
   right = c.requires.right;
 }
@@ -23,7 +23,8 @@ returns-then-not-may_differ_on c = record {
 pub returns : goal.returns
 returns c = record {
   added = on_ok c.add_spot.result
-      (on-host c.args.pair.now c.args.rows.now.items c.add_spot.new.rows.items c.args.spot (option_copied c.args.scope) (HaveAsk c.args.asked.now))
+      (on-host c.args.pair.now c.args.rows.now.items c.add_spot.new.rows.items c.args.spot (option_copied c.args.scope)
+      (HaveAsk c.args.asked.now))
       c.add_spot.ensures.added;
   classes = c.add_spot.ensures.classes;
   right = c.add_spot.ensures.right;

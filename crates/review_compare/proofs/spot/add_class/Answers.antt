@@ -22,7 +22,8 @@ returns-in_default c =
     record {
       added = on_ok c.add_each.result
           (λ adds.
-          class-found c.args.pair.now s k c.args.rows.now.items c.add_each.new.rows.items c.in_ok-found.found c.requires.spot c.requires.class found.found
+          class-found c.args.pair.now s k c.args.rows.now.items c.add_each.new.rows.items c.in_ok-found.found c.requires.spot
+          c.requires.class found.found
           (subst (λ (ws : List AskedWith). AddsFound c.args.rows.now.items s.user s.host (AreAsked ws) c.in_ok-found.found
           c.add_each.new.rows.items) c.deref.ensures.value adds))
           c.add_each.ensures.added;

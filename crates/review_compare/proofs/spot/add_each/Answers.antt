@@ -10,8 +10,8 @@ pub loop-targets-preserved : goal.loop-targets-preserved
 loop-targets-preserved c =
     let k = c.loop-targets.targets-index in
     let ws = c.args.asked.now in (
-      adds-more c.args.rows.now.items c.loop-targets.rows.items c.add_found.new.rows.items c.args.spot.user c.args.spot.host ws k c.targets-item.result
-          c.args.found.now c.loop-targets-test.true c.targets-item.is c.loop-targets.invariant.0
+      adds-more c.args.rows.now.items c.loop-targets.rows.items c.add_found.new.rows.items c.args.spot.user c.args.spot.host ws k
+          c.targets-item.result c.args.found.now c.loop-targets-test.true c.targets-item.is c.loop-targets.invariant.0
           c.in_ok-add_found.ensures.added,
       λ all. c.in_ok-add_found.ensures.of_spot (c.loop-targets.invariant.1 all),
     )

@@ -12,8 +12,8 @@ pub loop-class-preserved : goal.loop-class-preserved
 loop-class-preserved c =
     let k = c.loop-class.class-index in
     let ks = c.args.classes.now in (
-      class-more c.args.pair.now c.loop-class.rows.items c.add_class.new.rows.items c.args.spot ks k c.class-item.result c.loop-class-test.true
-          c.class-item.is c.loop-class.invariant.0 c.in_ok-add_class.ensures.added,
+      class-more c.args.pair.now c.loop-class.rows.items c.add_class.new.rows.items c.args.spot ks k c.class-item.result
+          c.loop-class-test.true c.class-item.is c.loop-class.invariant.0 c.in_ok-add_class.ensures.added,
       c.in_ok-add_class.ensures.right,
       c.in_ok-add_class.ensures.of_spot c.loop-class.invariant.2,
     )
