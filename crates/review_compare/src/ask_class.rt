@@ -18,14 +18,14 @@ use std::alloc::{AllocError, Global};
 use sudo_match::{Machine, Person};
 use sudo_verdict::Asker;
 
-/// The targets of asks with one group, or with none: either none, or known users.
+/// The targets of asks with one group, or without one: known users, or `None` alone.
 #[derive(Drop)]
 pub(crate) struct AskedWith {
     pub(crate) group: Option<usize>,
     pub(crate) targets: Vec<Option<usize>>,
 }
 
-/// A class of asks of a user: the blocks that list the user and whose runas allows them, and the asks.
+/// A class of asks of a user: the asks, and the blocks that list the user and whose runas allows them.
 #[derive(Drop)]
 pub(crate) struct AskClass {
     pub(crate) allowing: Listed,
@@ -70,7 +70,7 @@ fn firsts_of(alloc: Global, pair: &Pair<'_>, listed: &Listed) -> Result<Listed, 
     Ok(Listed { old, new })
 }
 
-// Whether both are something, or both nothing.
+// Whether both are users, or neither is.
 fn are_alike(target: Option<usize>, other: Option<usize>) -> bool {
     target.is_some() == other.is_some()
 }
@@ -82,7 +82,7 @@ fn is_same_group(group: Option<usize>, other: Option<usize>) -> bool
 }
 
 impl AskedWith {
-    // Whether the target of the ask belongs to these: it is asked for with the same group, and is one as they are, or none.
+    // Whether the ask has the same group, and a target exactly if these are users.
     fn takes(&self, ask: Ask) -> bool
         ensures { result ≡ true → self.now.group ≡ ask.group }
     {
@@ -106,7 +106,7 @@ fn taking_index(asked: &[AskedWith], ask: Ask) -> Option<usize>
     None
 }
 
-// Returns the ask by itself.
+// Returns the target of the ask alone, with its group.
 fn asked_alone(alloc: Global, ask: Ask) -> Result<AskedWith, AllocError>
     ensures only { IfOk result (λ w. (a : TheAsk) → body.IsAskedWith w a → ask ≡ a) }
     ensures has { IfOk result (λ w. body.IsAskedWith w ask) }

@@ -164,7 +164,7 @@ fn has_text(texts: &[Vec<u8>], text: &[u8]) -> bool {
     false
 }
 
-// Appends the text, if it is none of the others and these are not too many.
+// Appends the text, unless it is there already, or 32 texts are.
 fn push_text(texts: &mut Vec<Vec<u8>>, text: Vec<u8>) -> Result<(), AllocError> {
     if texts.len() < MOST_ARGUMENTS && !has_text(texts, &text) {
         texts.push(text)?;

@@ -175,7 +175,7 @@ fn rows_for_asked(
     Ok(rows)
 }
 
-// Returns what is found for the user on the hosts that are asked about. The host is any known one.
+// Returns what is found for the user on the hosts that are asked about. The machine is any known host.
 fn rows_beside(
     alloc: Global,
     pair: &Pair<'_>,

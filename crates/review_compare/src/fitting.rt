@@ -62,7 +62,7 @@ fn fitting_rows<'a>(
     Ok(fitting)
 }
 
-/// Whether the path of a changed row fits the command. No other command has a row that changed.
+/// Whether the path of a changed row fits the command. Otherwise no changed row fits it, whatever its arguments are.
 pub(crate) fn may_fit(changed: &Changed<'_, '_>, command: &[u8]) -> bool {
     for row in &changed.rows {
         if fits_path(row.shape, command) {
@@ -101,8 +101,8 @@ impl Fitting<'_> {
         false
     }
 
-    /// Returns the command with these arguments as a witness, if both policies do not say the same to it; these are the rows
-    /// whose paths fit it. Returns `AllocError` if allocation fails.
+    /// Returns the command with these arguments as a witness, if the policies answer it differently; these are the rows whose
+    /// paths fit it. Returns `AllocError` if allocation fails.
     pub(crate) fn witness(
         &self,
         alloc: Global,

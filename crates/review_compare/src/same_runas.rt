@@ -1,4 +1,4 @@
-//! Blocks whose runas is the same, written out: it is asked about an ask once for all of them.
+//! Blocks with the same runas, written out: for each ask it is evaluated once for all of them.
 ghost use Rattle.std.specs.Prelude.{◌≡◌, ◌≤◌, ◌<◌, filter, get_or, IfOk, IfSome, length, option_copied, true};
 ghost use Rattle.sudo_verdict.specs.Questions.{Question, question_as};
 ghost use Rattle.review_compare.specs.Body.Chosen.{runas_at};
@@ -10,7 +10,7 @@ use std::alloc::{AllocError, Global};
 use sudo_match::Directory;
 use sudo_verdict::Asker;
 
-// Returns the answer of the first block with the same runas, if it stands before this one.
+// Returns the answer of the first block with the same runas, if that block comes before this one.
 fn answer_before(answers: &[bool], firsts: &[usize], at: usize) -> Option<bool>
     ensures { IfSome result (λ answer. (get_or firsts.now at at < length answers.now)
         × (answer ≡ get_or answers.now (get_or firsts.now at at) answer)) }

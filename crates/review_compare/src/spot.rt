@@ -31,7 +31,7 @@ pub(crate) struct Spot<'a> {
     pub(crate) machine: &'a Machine,
 }
 
-// Compares the policies where the user asks on the host for what is in a class.
+// Compares the policies on the host for the asks of a class.
 fn found_on(
     alloc: Global,
     pair: &Pair<'_>,
@@ -49,7 +49,7 @@ fn found_on(
     found_of(alloc, pair, comparisons, old, new)
 }
 
-// Adds what is found for the targets with a group.
+// Adds the outcome for the targets with one group.
 fn add_found(
     alloc: Global,
     spot: Spot<'_>,
@@ -67,7 +67,7 @@ fn add_found(
     absorb(rows, row, Dimension::Targets)
 }
 
-// Adds what is found for all asks of a class.
+// Adds the outcome for all asks of a class.
 fn add_each(
     alloc: Global,
     spot: Spot<'_>,

@@ -82,7 +82,7 @@ beside-right l bs passes row told i within =
     go b at true is = ap (block_passes l) at
     go b at false is = told i b at is
 
--- a state with an added group, the row of that group, and what is known of the user without it
+-- a state with an added group: the row of the group, and the blocks that list the user without it
 module _
     (p : Policy) (d : KnownRows) (bs : List Block) (groups : List Group) (s : State) (i : ℕ) (added : s.added ≡ Some i)
     (rows : List (Vec Bool Global)) (named : AreRows p bs groups rows) (row : Vec Bool Global) (there : slice_get rows i ≡ Some row)

@@ -90,10 +90,10 @@ module _ (h : HostSteps) (q : Sought) where
       (λ i b at. ap (λ xs. slice_index_or xs i false) h.here ∙ answer-at (is_for h.checked.now h.host.now) h.blocks.now i b at))
       ∙ sym (ap (list_any (λ i. slice_index_or h.on.items i false)) is.strong) ∙ none) away
 
-  uncounted-mute :
+  no-step-counts :
       (c : Candidate) → IsCandidate h c → may_count h.on.items h.blocks.now h.least q.counted c.listed.items ≡ false →
       g.goal c.state ≡ false → IsMute g h.least c.state
-  uncounted-mute c is none away = (
+  no-step-counts c is none away = (
     away,
     λ t l above. ap (λ o. is_at_least l (level_for q.counted
         (given_between h.checked.now h.directory.now h.host.now o (slice_get h.directory.now.people t.user)
@@ -167,7 +167,7 @@ module _ (h : HostSteps) (q : Sought) where
           ∙ ap (λ a. a && counts c) is ∙ may))))))
       by_candidate s c inside at away true is false may =
           inr (inr (subst (IsMute g h.least) at
-          (uncounted-mute c (All-contains (IsCandidate h) h.candidates.now c h.covered.known inside) may (ap g.goal at ∙ away))))
+          (no-step-counts c (All-contains (IsCandidate h) h.candidates.now c h.covered.known inside) may (ap g.goal at ∙ away))))
       by_candidate s c inside at away false is k may =
           inr (inr (subst (IsMute g h.least) at
           (unheard-mute c (All-contains (IsCandidate h) h.candidates.now c h.covered.known inside) is (ap g.goal at ∙ away))))

@@ -82,7 +82,7 @@ pub(crate) fn set_base(
     Ok(())
 }
 
-// Whether the block at an index lists the user: looked up where the row has true, and as without the added group elsewhere.
+// Whether the block at an index lists the user: looked up if the row is true there, and otherwise as without the added group.
 fn passes_beside(
     ground: Ground<'_, '_>,
     passes: &[bool],
@@ -101,8 +101,8 @@ fn passes_beside(
     }
 }
 
-/// Returns the indices of the blocks whose user list allows the user, where the first list tells that of each block at which the row has
-/// no true. Returns `AllocError` if allocation fails.
+/// Returns the indices of the blocks whose user list allows the user. The first list answers for each block at which the row is not
+/// true. Returns `AllocError` if allocation fails.
 pub(crate) fn listed_beside(
     alloc: Global,
     ground: Ground<'_, '_>,

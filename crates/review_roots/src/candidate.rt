@@ -76,7 +76,8 @@ fn listed_of(
     Ok(listed)
 }
 
-// Returns the same of the user of a state, where a block that does not name its added group lists it as without that group.
+// Returns the indices of the blocks whose user list allows the user of a state. A block that does not name the added group is not
+// looked up again: it lists the user as it does without the group.
 fn listed_by(
     alloc: Global,
     ground: Ground<'_, '_>,

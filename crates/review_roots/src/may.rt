@@ -16,7 +16,7 @@ pub(crate) struct May {
     pub(crate) free: bool,
 }
 
-/// What no row may give.
+/// What may be given without a row: nothing.
 pub(crate) const MAY_NOTHING: May = May {
     level: Level::None,
     unasked: Level::None,

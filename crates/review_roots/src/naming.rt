@@ -58,14 +58,14 @@ fn naming_lists(
     Ok(row)
 }
 
-// Whether one is true.
+// Whether one of them is true.
 fn has_true(row: &[bool]) -> bool
     ensures { result ≡ list_any (λ b. b) row.now }
 {
     row.iter().any(|names| *names)
 }
 
-// Returns the same, or nothing if no atom names the group.
+// Returns for each list whether an atom of it names the group, or nothing if none does.
 fn row_of(alloc: Global, lists: &[Vec<Signed>], group: &Group) -> Result<Vec<bool>, AllocError>
     ensures { IfOk result (λ row. row.items
         ≡ spec.trimmed (map (λ v. list_names group.now v.items) lists.now)) }

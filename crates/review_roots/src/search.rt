@@ -140,8 +140,8 @@ fn draw_to<'c>(
     }
 }
 
-// Moves the candidates with a step of the level to a found state to those that are found, and returns the others, where the state
-// is at the target or has no added group; to another state it moves none.
+// Moves the candidates with a step of the level to a found state to those that are found, and returns the others. A state that is
+// not at the target and has an added group moves none.
 fn draw_alone<'c>(
     alloc: Global,
     steps: &HostSteps<'_, '_>,
@@ -176,8 +176,8 @@ fn draw_alone<'c>(
     Ok(rest)
 }
 
-// Finds candidates from which steps of the level, or a better one, lead to what is found at the target or without an added group, and
-// returns the others: most are found so, by way of few states.
+// Moves the candidates from which steps of at least this level lead to a found state, by states at the target or without an added
+// group, to those that are found, and returns the others. This finds most candidates, by way of few states.
 fn spread_alone<'c>(
     alloc: Global,
     steps: &HostSteps<'_, '_>,
@@ -260,8 +260,8 @@ fn found_at(
     Ok(found)
 }
 
-// Whether a block on the host that raises lists the candidate, which is not the target, and a step of it that counts may have the least
-// level.
+// Whether the candidate is left: it is not the target, a block on the host that raises lists it, and one of its steps that count may
+// have the least level.
 fn is_left(steps: &HostSteps<'_, '_>, sought: Sought, candidate: &Candidate) -> bool
     ensures { result ≡ is_left steps.now sought candidate.now }
 {
