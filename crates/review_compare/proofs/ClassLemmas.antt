@@ -63,7 +63,7 @@ module _ (p : Policy) (bs : List Block) (near : List ℕ) (d : KnownRows) (u : P
 
 -- ---- Rows for another host
 
-or-false : (b : Bool) → (b || false) ≡ b
+pub or-false : (b : Bool) → (b || false) ≡ b
 or-false true = refl
 or-false false = refl
 

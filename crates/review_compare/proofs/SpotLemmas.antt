@@ -27,7 +27,7 @@ use Rattle.review_compare.specs.Body.Merged.{Absorbs, AddsFound, AreOrdered, IsO
 use Rattle.review_compare.specs.Body.Progress.{IsOn, IsSpot, Progress, cell_at, question_of}
 use Rattle.review_compare.proofs.AskLemmas.{asked-cases, asked-first, asked-last, classes-cases}
 use Rattle.review_compare.proofs.CellLemmas.{rows_say_same}
-use Rattle.review_compare.proofs.ClassLemmas.{same-self, single}
+use Rattle.review_compare.proofs.ClassLemmas.{or-false, same-self, single}
 use Rattle.review_compare.proofs.DifferenceLemmas.{nothing-added, numbers-same, spot-question, went-on}
 use Rattle.review_compare.proofs.NearLemmas.{changed_by, compared-moved, near_new, near_old, pair-all, pair-near}
 
@@ -46,11 +46,7 @@ contains-any q (y ∷ ys) (suc k) less is =
     or_right (same_number q y) (list_any (same_number q) ys) (contains-any q ys k (omega (arith, less)) is)
 
 one-number : (q g : Option ℕ) → list_any (same_number q) (g ∷ []) ≡ same_number q g
-one-number q g = by (same_number q g)
-  where
-    by : (b : Bool) → (b || false) ≡ b
-    by true = refl
-    by false = refl
+one-number q g = or-false (same_number q g)
 
 row-has : (user host : ℕ) (w : AskedWith) (f : Compared) (r : Row) → IsRowOf user host w f r → (c : Cell) →
     IsOn user host (IsAskedWith w) c → has_cell r c ≡ true
