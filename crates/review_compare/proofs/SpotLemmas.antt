@@ -1,5 +1,5 @@
 -- The rows of the comparison for a user on a host.
-use Rattle.std.proofs.Common.{◌≡◌, ◌<◌, ◌+◌, ◌∙◌, ◌⊎◌, inl, inr, ℕ, zero, suc, Bool, true, false, ◌&&◌, ◌||◌, All, List, [], ◌∷◌, ◌++◌}
+use Rattle.std.proofs.Common.{◌≡◌, ◌<◌, ◌+◌, ◌∙◌, ◌⊎◌, inl, inr, ℕ, zero, suc, true, false, ◌&&◌, All, List, [], ◌∷◌, ◌++◌}
 use Rattle.std.proofs.Common.{ap, arith, refl, sym, subst, get_or, length, take, Option, None, Some}
 use Rattle.std.specs.Prelude.{◌==◌, IsPermutation, slice_index_or}
 use Rattle.std.specs.List.{Contains, list_any}
