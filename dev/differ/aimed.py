@@ -117,6 +117,8 @@ def _join(aim: Aim) -> Aimed:
 def _torn_mark(aim: Aim) -> Aimed:
     tag = aim.pick("PASSWD", "EXEC", "SETENV", "MAIL", "NOEXEC", "FOLLOW")
     said = aim.pick(f"{tag}{aim.pick('', ' ')}\\\n: {aim.command}", f"!\\\n! {aim.command}")
+    if aim.chance(0.25):
+        return Aimed(f"{aim.pick('', ' ')}\\\nUser_Alias A = {aim.user}\n" + aim.rule(aim.command, "A"), (aim.ask(),))
     return Aimed(aim.rule(said), (aim.ask(),))
 
 
@@ -142,6 +144,12 @@ def _include_indent(aim: Aim) -> Aimed:
 def _comment(aim: Aim) -> Aimed:
     number = aim.pick("5", "-1", "42 note", "7,8", "-", "\rx")
     return Aimed(aim.rule(f"{aim.pick(aim.command, 'ALL')}{aim.pick('', ' ')}#{number}"), (aim.ask(),))
+
+
+def _empty_group(aim: Aim) -> Aimed:
+    target = aim.pick("root", "postgres", "operator")
+    users, colon = aim.pick(target, f"bin, {target}"), aim.pick(":", " :", ": ", ":\\\n ")
+    return Aimed(aim.rule(f"({users}{colon}) {aim.command}"), (aim.ask(target=target),))
 
 
 def _caret(aim: Aim) -> Aimed:
@@ -329,6 +337,7 @@ DRAWN: dict[str, Callable[[Aim], Aimed]] = {
     "include-escape": _include_escape,
     "include-indent": _include_indent,
     "comment": _comment,
+    "empty-group": _empty_group,
     "caret": _caret,
     "escape": _escape,
     "case": _case,

@@ -14,8 +14,8 @@ from differ.world import lower
 
 # The classes in their order, but for that of linked folders.
 NAMES = (
-    "return blank-after-backslash join torn-mark include-escape include-indent comment caret escape case quoted-host"
-    " quoted-escape defaults sudoedit network bracket setenv group-form reserved arguments"
+    "return blank-after-backslash join torn-mark include-escape include-indent comment empty-group caret escape case"
+    " quoted-host quoted-escape defaults sudoedit network bracket setenv group-form reserved arguments"
 ).split()
 ALIAS = re.compile(r"[A-Z][A-Z0-9_]*")
 JOIN = rf"{EVEN}\\\r?\n[ \t]*"
@@ -94,6 +94,7 @@ ROWS = {
     "include-escape": ("@include /x/a\\x62", '@include "/x/a\\x62"'),
     "include-indent": (" #include /etc/x",),
     "comment": ("#-1 ALL = ALL", "alice ALL = /bin/ls #5", "#-", "alice ALL = ALL #<CR>x"),
+    "empty-group": ("alice ALL = (bob:) /bin/ls",),
     "caret": ("alice ALL = /usr/bin/passwd [^-]*",),
     "escape": (
         "alice ALL = /bin/ls a\\\\b",

@@ -40,6 +40,7 @@ _CLASSES = {
     "include-escape": Effect(WHO, "sudo may read another file here, or none: each answer on this page may differ."),
     "include-indent": Effect(WHO, "sudo does not read this file: each answer on this page may differ."),
     "comment": Effect(WHO, _LINE),
+    "empty-group": Effect(WHO, _LINE),
     "caret": Effect(WHO, _NAMES),
     "escape": Effect(WHO, _NAMES),
     "case": Effect(WHO, "For sudo the name is also that of a user or group with small letters: each answer may differ."),

@@ -21,7 +21,7 @@ use Rattle.sudo_grammar.specs.declared.policy.EntryBody.TheVariants as entries
 use Rattle.sudo_grammar.specs.declared.policy.Entry.{Entry}
 use Rattle.sudo_policy.specs.Definitions.{MemberList, granting_list, definition_in}
 use Rattle.review_cautions.specs.declared.class.CautionClass.TheVariants.{Return, BlankAfterBackslash, Join, TornMark}
-use Rattle.review_cautions.specs.declared.class.CautionClass.TheVariants.{IncludeEscape, IncludeIndent, Comment}
+use Rattle.review_cautions.specs.declared.class.CautionClass.TheVariants.{IncludeEscape, IncludeIndent, Comment, EmptyGroup}
 use Rattle.review_cautions.specs.declared.class.CautionClass.TheVariants.{Caret, Escape, Case, QuotedHost, QuotedEscape, Linked, Defaults}
 use Rattle.review_cautions.specs.declared.class.CautionClass.TheVariants.{Sudoedit, Network, Bracket, Setenv}
 use Rattle.review_cautions.specs.declared.class.CautionClass.TheVariants.{GroupForm, Reserved, Arguments}
@@ -100,6 +100,17 @@ comment = refl
 no_comment : text_cautions Comment ((codes "a\\#5 ALL = ALL" ++ 10 ∷ codes "\"a #5\" ALL = ALL" ++ 10 ∷ codes "@include /x#5" ++ 10
     ∷ codes "%#5 ALL = (#6 : #7) ALL") ∷ []) ≡ []
 no_comment = refl
+
+-- a colon before a `)`, also over a join; not `(:)`, nor one in a quoted name or in a comment
+empty_group : text_cautions EmptyGroup ((codes "alice ALL = (bob : ) ALL" ++ 10 ∷ codes "alice ALL = (bob: \\" ++ 10 ∷ codes "  ) ALL"
+    ++ 10 ∷ codes "alice ALL = (:) /x, () /y, (bob:adm) /z # :)" ++ 10 ∷ codes "\"a:)\" ALL = ALL") ∷ [])
+    ≡ caution_at EmptyGroup (place 0 1) ∷ caution_at EmptyGroup (place 0 2) ∷ []
+empty_group = refl
+
+-- a backslash alone before a definition; not before a rule
+torn_definition : text_cautions TornMark ((codes " \\" ++ 10 ∷ codes "User_Alias A = bob" ++ 10 ∷ codes "\\" ++ 10
+    ∷ codes "alice ALL = ALL") ∷ []) ≡ caution_at TornMark (place 0 1) ∷ []
+torn_definition = refl
 
 -- a member with this atom
 member : Atom → Member

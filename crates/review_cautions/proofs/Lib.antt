@@ -3,6 +3,7 @@ pub mod LineSteps
 pub mod CautionVectors
 pub mod MarkLaws
 pub mod CommentLaws
+pub mod GroupLaws
 pub mod UseLaws
 pub mod SignLaws
 pub mod LookLaws

@@ -19,7 +19,7 @@ use Rattle.review_cautions.specs.Escapes.{begins_as_id, has_quoted_mark}
 use Rattle.review_cautions.specs.Escapes.{has_quoted_escape, is_escaped_byte, is_long_sudoedit}
 use Rattle.review_cautions.specs.ListTests.{list_holds, member_holds, concerns}
 use Rattle.review_cautions.specs.declared.class.CautionClass.TheVariants.{Return, BlankAfterBackslash, Join, TornMark}
-use Rattle.review_cautions.specs.declared.class.CautionClass.TheVariants.{IncludeEscape, IncludeIndent, Comment}
+use Rattle.review_cautions.specs.declared.class.CautionClass.TheVariants.{IncludeEscape, IncludeIndent, Comment, EmptyGroup}
 use Rattle.review_cautions.specs.declared.class.CautionClass.TheVariants.{Caret, Escape, Case}
 use Rattle.review_cautions.specs.declared.class.CautionClass.TheVariants.{QuotedHost, QuotedEscape, Linked, Defaults}
 use Rattle.review_cautions.specs.declared.class.CautionClass.TheVariants.{UnknownParameter, Sudoedit, Network}
@@ -246,6 +246,7 @@ unmarked TornMark n m h = refl
 unmarked IncludeEscape n m h = refl
 unmarked IncludeIndent n m h = refl
 unmarked Comment n m h = refl
+unmarked EmptyGroup n m h = refl
 unmarked Case n m h = grind arith
 unmarked Linked n m h = refl
 unmarked Defaults n m h = refl

@@ -6,7 +6,7 @@ use Rattle.sudo_base.proofs.Lists.{find-holds}
 use Rattle.sudo_base.proofs.IndexLemmas.{bytes_eq-is}
 use Rattle.review_cautions.specs.declared.class.CautionClass.{CautionClass}
 use Rattle.review_cautions.specs.declared.class.CautionClass.TheVariants.{Return, BlankAfterBackslash, Join, TornMark}
-use Rattle.review_cautions.specs.declared.class.CautionClass.TheVariants.{IncludeEscape, IncludeIndent, Comment}
+use Rattle.review_cautions.specs.declared.class.CautionClass.TheVariants.{IncludeEscape, IncludeIndent, Comment, EmptyGroup}
 use Rattle.review_cautions.specs.declared.class.CautionClass.TheVariants.{Caret, Escape, Case, QuotedHost, QuotedEscape, Linked, Defaults}
 use Rattle.review_cautions.specs.declared.class.CautionClass.TheVariants.{UnknownParameter, Sudoedit, Network, Bracket}
 use Rattle.review_cautions.specs.declared.class.CautionClass.TheVariants.{Setenv, GroupForm, Reserved, Arguments}
@@ -21,6 +21,7 @@ own_name TornMark = refl
 own_name IncludeEscape = refl
 own_name IncludeIndent = refl
 own_name Comment = refl
+own_name EmptyGroup = refl
 own_name Caret = refl
 own_name Escape = refl
 own_name Case = refl

@@ -1,6 +1,6 @@
--- A line without a sign has no construct of any class.
+-- A line without a sign and without a colon or a blank before a `)` has no construct of any class.
 use Rattle.std.proofs.Common.{◌≡◌, ◌-◌, ℕ, zero, suc, Bool, true, false, cond, List, [], ◌∷◌, ◌++◌, length, refl, ◌∙◌, ap, arith}
-use Rattle.std.specs.Prelude.{not, ◌&&◌, ◌||◌, ◌==◌, ◌%◌, take, drop, reverse, slice_index, nat_lt, if◌then◌else◌}
+use Rattle.std.specs.Prelude.{not, ◌&&◌, ◌||◌, ◌==◌, ◌%◌, take, reverse, slice_index, nat_lt, if◌then◌else◌}
 use Rattle.std.specs.List.{list_any, take_while}
 use Rattle.std.proofs.lemmas.Grind.{reverse_onto}
 use Rattle.std.proofs.lemmas.List.Sums.{take_while-cons}
@@ -8,7 +8,7 @@ use Rattle.sudo_text.specs.Bytes.{is_include}
 use Rattle.sudo_text.specs.Lines.{ends_in_escape, without_return, without_escape}
 use Rattle.review_cautions.specs.declared.class.CautionClass.{CautionClass}
 use Rattle.review_cautions.specs.declared.class.CautionClass.TheVariants.{Return, BlankAfterBackslash, Join, TornMark}
-use Rattle.review_cautions.specs.declared.class.CautionClass.TheVariants.{IncludeEscape, IncludeIndent, Comment}
+use Rattle.review_cautions.specs.declared.class.CautionClass.TheVariants.{IncludeEscape, IncludeIndent, Comment, EmptyGroup}
 use Rattle.review_cautions.specs.declared.class.CautionClass.TheVariants.{Caret, Escape, Case}
 use Rattle.review_cautions.specs.declared.class.CautionClass.TheVariants.{QuotedHost, QuotedEscape, Linked, Defaults}
 use Rattle.review_cautions.specs.declared.class.CautionClass.TheVariants.{UnknownParameter, Sudoedit, Network}
@@ -17,7 +17,8 @@ use Rattle.review_cautions.specs.PhysicalLines.{stripped, last_byte, may_have_co
 use Rattle.review_cautions.specs.PhysicalLines.{ends_in_escaped_blanks, ends_in_mark, has_escape_of, has_path_escape, end_blanks}
 use Rattle.review_cautions.specs.PhysicalLines.{is_indented_include, is_remark, is_of_comments}
 use Rattle.review_cautions.specs.PhysicalLines.{line_holds, is_marked, has_other_comment}
-use Rattle.review_cautions.specs.Body.Signs.{is_sign}
+use Rattle.review_cautions.specs.Body.Signs.{is_sign, has_late_close, may_hold}
+use Rattle.review_cautions.proofs.GroupLaws.{dropped, no_empty_group}
 use Rattle.review_cautions.proofs.CommentLaws.{no_comment, no_left, no_right, neither}
 
 first_false : (a b : Bool) → a ≡ false → (a && b) ≡ false
@@ -37,11 +38,6 @@ taken p zero line h = refl
 taken p (suc n) [] h = refl
 taken p (suc n) (b ∷ bs) h = neither (p b) (list_any p (take n bs)) (no_left (p b) (list_any p bs) h)
     (taken p n bs (no_right (p b) (list_any p bs) h))
-
-dropped : (p : ℕ → Bool) (n : ℕ) (line : List ℕ) → list_any p line ≡ false → list_any p (drop n line) ≡ false
-dropped p zero line h = h
-dropped p (suc n) [] h = refl
-dropped p (suc n) (b ∷ bs) h = dropped p n bs (no_right (p b) (list_any p bs) h)
 
 reversed : (p : ℕ → Bool) (line : List ℕ) → list_any p line ≡ false → list_any p (reverse line) ≡ false
 reversed p [] h = refl
@@ -126,41 +122,44 @@ no_indented continuing line h =
     grind (arith, none)
 
 quiet_line : (class : CautionClass) (continuing : Bool) (line next : List ℕ) → list_any is_sign line ≡ false
-    → line_holds class continuing line next ≡ false
-quiet_line Return continuing line next h =
+    → has_late_close false (stripped line) ≡ false → line_holds class continuing line next ≡ false
+quiet_line Return continuing line next h k =
     first_false (last_byte line == 13) (may_have_command continuing line || ends_in_escape (without_return line))
     (none_at (λ b. b == 13) refl line (length line - 1) (fewer is_sign (λ b. b == 13) no_return line h))
-quiet_line BlankAfterBackslash continuing line next h = blanks_end line h
-quiet_line Join continuing line next h =
+quiet_line BlankAfterBackslash continuing line next h k = blanks_end line h
+quiet_line Join continuing line next h k =
     first_false (ends_in_escape (stripped line)) (ends_in_word (has_slash (stripped line)) (without_escape (stripped line))
     && begins_in_word (has_slash (stripped line)) (stripped next)) (bare_end line h)
-quiet_line TornMark continuing line next h =
+quiet_line TornMark continuing line next h k =
     first_false (ends_in_escape (stripped line)) (ends_in_mark (without_escape (stripped line)) (stripped next)) (bare_end line h)
-quiet_line IncludeEscape continuing line next h =
+quiet_line IncludeEscape continuing line next h k =
     second_false (not continuing && is_include (stripped line)) (has_path_escape (stripped line))
     (no_path_escape (stripped line) (bare (λ b. b == 92) line (no_backslashes line h)))
-quiet_line IncludeIndent continuing line next h = no_indented continuing line h
-quiet_line Comment continuing line next h =
+quiet_line IncludeIndent continuing line next h k = no_indented continuing line h
+quiet_line Comment continuing line next h k =
     first_false (has_other_comment false false true (stripped line)) (not (is_include (stripped line)))
     (no_comment false false true (stripped line) (bare_hash line h))
-quiet_line Caret continuing line next h = refl
-quiet_line Escape continuing line next h = refl
-quiet_line Case continuing line next h = refl
-quiet_line QuotedHost continuing line next h = refl
-quiet_line QuotedEscape continuing line next h = refl
-quiet_line Linked continuing line next h = refl
-quiet_line Defaults continuing line next h = refl
-quiet_line UnknownParameter continuing line next h = refl
-quiet_line Sudoedit continuing line next h = refl
-quiet_line Network continuing line next h = refl
-quiet_line Bracket continuing line next h = refl
-quiet_line Setenv continuing line next h = refl
-quiet_line GroupForm continuing line next h = refl
-quiet_line Reserved continuing line next h = refl
-quiet_line Arguments continuing line next h = refl
+quiet_line EmptyGroup continuing line next h k =
+    no_empty_group false false false (stripped line) (stripped next) (bare (λ b. b == 92) line (no_backslashes line h)) k
+quiet_line Caret continuing line next h k = refl
+quiet_line Escape continuing line next h k = refl
+quiet_line Case continuing line next h k = refl
+quiet_line QuotedHost continuing line next h k = refl
+quiet_line QuotedEscape continuing line next h k = refl
+quiet_line Linked continuing line next h k = refl
+quiet_line Defaults continuing line next h k = refl
+quiet_line UnknownParameter continuing line next h k = refl
+quiet_line Sudoedit continuing line next h k = refl
+quiet_line Network continuing line next h k = refl
+quiet_line Bracket continuing line next h k = refl
+quiet_line Setenv continuing line next h k = refl
+quiet_line GroupForm continuing line next h k = refl
+quiet_line Reserved continuing line next h k = refl
+quiet_line Arguments continuing line next h k = refl
 
-pub quiet : (class : CautionClass) (continuing : Bool) (line next : List ℕ) → list_any is_sign line ≡ false
+pub quiet : (class : CautionClass) (continuing : Bool) (line next : List ℕ) → may_hold line ≡ false
     → is_marked class continuing line next ≡ false
 quiet class continuing line next h =
     second_false (is_of_comments class || not (is_remark continuing line)) (line_holds class continuing line next)
-    (quiet_line class continuing line next h)
+    (quiet_line class continuing line next (no_left (list_any is_sign line) (has_late_close false (stripped line)) h)
+    (no_right (list_any is_sign line) (has_late_close false (stripped line)) h))

@@ -2,16 +2,16 @@
 use Rattle.std.specs.Prelude.{ℕ, List, [], ◌∷◌, codes}
 use Rattle.review_cautions.specs.declared.class.CautionClass.{CautionClass}
 use Rattle.review_cautions.specs.declared.class.CautionClass.TheVariants.{Return, BlankAfterBackslash, Join, TornMark}
-use Rattle.review_cautions.specs.declared.class.CautionClass.TheVariants.{IncludeEscape, IncludeIndent, Comment}
+use Rattle.review_cautions.specs.declared.class.CautionClass.TheVariants.{IncludeEscape, IncludeIndent, Comment, EmptyGroup}
 use Rattle.review_cautions.specs.declared.class.CautionClass.TheVariants.{Caret, Escape, Case, QuotedHost, QuotedEscape, Linked, Defaults}
 use Rattle.review_cautions.specs.declared.class.CautionClass.TheVariants.{UnknownParameter, Sudoedit, Network, Bracket}
 use Rattle.review_cautions.specs.declared.class.CautionClass.TheVariants.{Setenv, GroupForm, Reserved, Arguments}
 
 -- the classes, in the order in which they are listed
 abbrev pub classes : List CautionClass
-classes = Return ∷ BlankAfterBackslash ∷ Join ∷ TornMark ∷ IncludeEscape ∷ IncludeIndent ∷ Comment ∷ Caret ∷ Escape ∷ Case
-    ∷ QuotedHost ∷ QuotedEscape ∷ Linked ∷ Defaults ∷ UnknownParameter ∷ Sudoedit ∷ Network ∷ Bracket ∷ Setenv ∷ GroupForm
-    ∷ Reserved ∷ Arguments ∷ []
+classes = Return ∷ BlankAfterBackslash ∷ Join ∷ TornMark ∷ IncludeEscape ∷ IncludeIndent ∷ Comment ∷ EmptyGroup ∷ Caret
+    ∷ Escape ∷ Case ∷ QuotedHost ∷ QuotedEscape ∷ Linked ∷ Defaults ∷ UnknownParameter ∷ Sudoedit ∷ Network ∷ Bracket
+    ∷ Setenv ∷ GroupForm ∷ Reserved ∷ Arguments ∷ []
 
 -- the name of a class
 abbrev pub class_name : CautionClass → List ℕ
@@ -22,6 +22,7 @@ class_name TornMark = codes "torn-mark"
 class_name IncludeEscape = codes "include-escape"
 class_name IncludeIndent = codes "include-indent"
 class_name Comment = codes "comment"
+class_name EmptyGroup = codes "empty-group"
 class_name Caret = codes "caret"
 class_name Escape = codes "escape"
 class_name Case = codes "case"
@@ -50,6 +51,7 @@ class_text IncludeEscape =
 class_text IncludeIndent = codes "blanks stand before #include: the file is read here, for sudo the line is a comment"
 class_text Comment =
     codes "a number or a carriage return stands behind the # of a comment: a comment here, none for sudo, which mostly refuses it"
+class_text EmptyGroup = codes "a runas has users, a colon and no group behind it: as without the colon here, refused by sudo"
 class_text Caret = codes "`[^` begins a bracket: `^` is one of its characters here, for sudo a complement"
 class_text Escape = codes "an escape is read otherwise by sudo: as a wildcard, as an ID, as two characters, or refused"
 class_text Case = codes "a name has a capital letter: letter case counts here, not for sudo"

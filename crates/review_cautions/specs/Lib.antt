@@ -1,4 +1,5 @@
 pub mod Classes
+pub mod EmptyGroups
 pub mod PhysicalLines
 pub mod Brackets
 pub mod Escapes

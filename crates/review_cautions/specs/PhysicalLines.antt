@@ -7,9 +7,10 @@ use Rattle.std.specs.Str.{bytes_eq}
 use Rattle.sudo_text.specs.Bytes.{is_blank, is_digit, is_include}
 use Rattle.sudo_text.specs.Lines.{without_return, without_indent, without_escape, is_comment, ends_in_escape, is_continued}
 use Rattle.review_cautions.specs.ReservedNames.{is_tag}
+use Rattle.review_cautions.specs.EmptyGroups.{has_empty_group}
 use Rattle.review_cautions.specs.declared.class.CautionClass.{CautionClass}
 use Rattle.review_cautions.specs.declared.class.CautionClass.TheVariants.{Return, BlankAfterBackslash, Join, TornMark}
-use Rattle.review_cautions.specs.declared.class.CautionClass.TheVariants.{IncludeEscape, IncludeIndent, Comment}
+use Rattle.review_cautions.specs.declared.class.CautionClass.TheVariants.{IncludeEscape, IncludeIndent, Comment, EmptyGroup}
 
 -- the last byte of a line, and 0 if it has none
 abbrev pub last_byte : List ℕ → ℕ
@@ -102,10 +103,22 @@ tears_group line = last_byte line == 37
 abbrev pub tears_operator : List ℕ → List ℕ → Bool
 tears_operator line next = ((last_byte line == 43) || (last_byte line == 45)) && (slice_index next 0 == 61)
 
--- the line ends in one of these marks, which the next one ends
+-- the line begins as a definition of aliases or a Defaults line does
+abbrev pub begins_definition : List ℕ → Bool
+begins_definition line =
+    starts_with nat_eq line (codes "Defaults") || starts_with nat_eq line (codes "User_Alias")
+    || starts_with nat_eq line (codes "Runas_Alias") || starts_with nat_eq line (codes "Host_Alias")
+    || starts_with nat_eq line (codes "Cmnd_Alias") || starts_with nat_eq line (codes "Cmd_Alias")
+
+-- nothing stands in the line, and such a line is the next one
+abbrev pub tears_definition : List ℕ → List ℕ → Bool
+tears_definition line next = bytes_eq line [] && begins_definition next
+
+-- the line ends in one of these marks, which the next one ends, or has nothing before a definition
 abbrev pub ends_in_mark : List ℕ → List ℕ → Bool
 ends_in_mark line next =
     is_keyword line || tears_group line || tears_tag line next || tears_bangs line next || tears_operator line next
+    || tears_definition line next
 
 -- the line goes on in the next one within a mark that sudo wants on one line
 abbrev pub tears_mark : List ℕ → List ℕ → Bool
@@ -179,6 +192,7 @@ line_holds TornMark continuing line next = tears_mark (stripped line) (stripped 
 line_holds IncludeEscape continuing line next = is_escaped_include continuing (stripped line)
 line_holds IncludeIndent continuing line next = is_indented_include continuing line
 line_holds Comment continuing line next = has_other_comment false false true (stripped line) && not (is_include (stripped line))
+line_holds EmptyGroup continuing line next = has_empty_group false false false (stripped line) (stripped next)
 line_holds _ continuing line next = false
 
 -- the line is a comment; a continuation line never is

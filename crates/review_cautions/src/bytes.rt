@@ -123,12 +123,18 @@ pub(crate) fn without_return(line: &[u8]) -> &[u8]
     }
 }
 
+/// Strips the blanks from the front of a line.
+pub(crate) fn without_indent(line: &[u8]) -> &[u8]
+    ensures { result.now ≡ lines.without_indent line.now }
+{
+    &line[blank_count(line)..]
+}
+
 /// Strips a carriage return from the end of a line and the blanks from its front.
 pub(crate) fn strip(line: &[u8]) -> &[u8]
     ensures { result.now ≡ stripped line.now }
 {
-    let line = without_return(line);
-    &line[blank_count(line)..]
+    without_indent(without_return(line))
 }
 
 // Returns the offset of the first newline, or the length of a text without newlines.

@@ -19,6 +19,8 @@ pub enum CautionClass {
     IncludeIndent,
     /// A comment whose `#` stands before a number or a carriage return.
     Comment,
+    /// A list of users to run as with a colon and no group behind it.
+    EmptyGroup,
     /// A bracket of a pattern that begins with `^`.
     Caret,
     /// An escape that sudo reads as a wildcard, as the mark of an ID, as two characters, or not at all.
@@ -64,6 +66,7 @@ impl CautionClass {
             CautionClass::IncludeEscape => b"include-escape",
             CautionClass::IncludeIndent => b"include-indent",
             CautionClass::Comment => b"comment",
+            CautionClass::EmptyGroup => b"empty-group",
             CautionClass::Caret => b"caret",
             CautionClass::Escape => b"escape",
             CautionClass::Case => b"case",
@@ -107,6 +110,9 @@ impl CautionClass {
             }
             CautionClass::Comment => {
                 b"a number or a carriage return stands behind the # of a comment: a comment here, none for sudo, which mostly refuses it"
+            }
+            CautionClass::EmptyGroup => {
+                b"a runas has users, a colon and no group behind it: as without the colon here, refused by sudo"
             }
             CautionClass::Caret => {
                 b"`[^` begins a bracket: `^` is one of its characters here, for sudo a complement"
@@ -156,7 +162,7 @@ impl CautionClass {
 }
 
 /// The classes, in the order in which they are listed.
-pub const CAUTION_CLASSES: [CautionClass; 22] = [
+pub const CAUTION_CLASSES: [CautionClass; 23] = [
     CautionClass::Return,
     CautionClass::BlankAfterBackslash,
     CautionClass::Join,
@@ -164,6 +170,7 @@ pub const CAUTION_CLASSES: [CautionClass; 22] = [
     CautionClass::IncludeEscape,
     CautionClass::IncludeIndent,
     CautionClass::Comment,
+    CautionClass::EmptyGroup,
     CautionClass::Caret,
     CautionClass::Escape,
     CautionClass::Case,

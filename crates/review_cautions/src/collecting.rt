@@ -49,7 +49,8 @@ fn push_all_texts(
     push_lines(alloc, CautionClass::TornMark, &lines, found)?;
     push_lines(alloc, CautionClass::IncludeEscape, &lines, found)?;
     push_lines(alloc, CautionClass::IncludeIndent, &lines, found)?;
-    push_lines(alloc, CautionClass::Comment, &lines, found)
+    push_lines(alloc, CautionClass::Comment, &lines, found)?;
+    push_lines(alloc, CautionClass::EmptyGroup, &lines, found)
 }
 
 /// Returns the cautions on a policy: class by class, and within a class in the order of the files and of their lines,

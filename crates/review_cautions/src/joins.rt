@@ -133,7 +133,26 @@ fn tears_operator(line: &[u8], next: &[u8]) -> bool
     (last == b'+' || last == b'-') && peek(next, 0) == b'='
 }
 
-// Whether a line ends in a mark that the next one ends.
+// Whether a line begins as a definition of aliases or a Defaults line does.
+fn begins_definition(line: &[u8]) -> bool
+    ensures { result ≡ spec.begins_definition line.now }
+{
+    line.starts_with(b"Defaults")
+        || line.starts_with(b"User_Alias")
+        || line.starts_with(b"Runas_Alias")
+        || line.starts_with(b"Host_Alias")
+        || line.starts_with(b"Cmnd_Alias")
+        || line.starts_with(b"Cmd_Alias")
+}
+
+// Whether nothing stands in a line, and a definition of aliases or a Defaults line is the next one.
+fn tears_definition(line: &[u8], next: &[u8]) -> bool
+    ensures { result ≡ spec.tears_definition line.now next.now }
+{
+    is_text(line, b"") && begins_definition(next)
+}
+
+// Whether a line ends in a mark that the next one ends, or has nothing before a definition.
 fn ends_in_mark(line: &[u8], next: &[u8]) -> bool
     ensures { result ≡ spec.ends_in_mark line.now next.now }
 {
@@ -142,6 +161,7 @@ fn ends_in_mark(line: &[u8], next: &[u8]) -> bool
         || tears_tag(line, next)
         || tears_bangs(line, next)
         || tears_operator(line, next)
+        || tears_definition(line, next)
 }
 
 /// Whether a line is joined to the next one inside a word.

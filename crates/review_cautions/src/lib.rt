@@ -14,6 +14,7 @@ mod comments;
 mod defaults;
 mod entries;
 mod escapes;
+mod groups;
 mod joins;
 mod lines;
 mod link;

@@ -11,6 +11,7 @@ use crate::bytes::{
     strip, without_return,
 };
 use crate::comments::has_other_comment;
+use crate::groups::has_empty_group;
 use crate::joins::{has_slash, tears_mark, tears_word};
 use crate::{Caution, CautionClass};
 use std::alloc::{AllocError, Global};
@@ -147,6 +148,7 @@ fn line_holds(class: CautionClass, continuing: bool, line: &[u8], after: &[u8]) 
         CautionClass::IncludeEscape => is_escaped_include(continuing, strip(line)),
         CautionClass::IncludeIndent => is_indented_include(continuing, line),
         CautionClass::Comment => has_other_comment(strip(line)) && !is_include(strip(line)),
+        CautionClass::EmptyGroup => has_empty_group(strip(line), strip(first_of(after))),
         _ => false,
     }
 }

@@ -1,4 +1,5 @@
-//! The physical lines with a sign: a carriage return, a backslash or a `#`. No other line has the construct of a class.
+//! The physical lines with a sign (a carriage return, a backslash or a `#`), or with a colon or a blank before a `)`. No
+//! other line has the construct of a class.
 ghost use Rattle.std.specs.Prelude.{◌≡◌, ◌++◌, ◌≤◌, length, map, IfOk, OnOk, false};
 ghost use Rattle.std.specs.List.{list_any};
 ghost use Rattle.sudo_text.specs.Lines.{cut, place};
@@ -8,7 +9,8 @@ ghost use Rattle.review_cautions.specs.PhysicalLines.{numbers_of};
 ghost use Rattle.review_cautions.specs.Body.Signs as spec;
 ghost use Rattle.review_cautions.specs.declared.class.CautionClass.{CautionClass};
 
-use crate::bytes::cut_first;
+use crate::bytes::{cut_first, strip};
+use crate::groups::has_late_close;
 use crate::lines::{PhysicalLine, is_continued};
 use memchr::memchr3;
 use std::alloc::{AllocError, Global};
@@ -21,7 +23,14 @@ fn has_sign(line: &[u8]) -> bool
     memchr3(b'\r', b'\\', b'#', line).is_some()
 }
 
-// Appends a physical line, if it has a sign.
+// Whether a line may have the construct of a class.
+fn may_hold(line: &[u8]) -> bool
+    ensures { result ≡ spec.may_hold line.now }
+{
+    has_sign(line) || has_late_close(strip(line))
+}
+
+// Appends a physical line, if it may have the construct of a class.
 fn push_signed<'a>(
     line: PhysicalLine<'a>,
     lines: &mut Vec<PhysicalLine<'a>>,
@@ -29,13 +38,13 @@ fn push_signed<'a>(
     ensures { OnOk result ((class : CautionClass) → spec.cautions_on class lines.new.items
         ≡ spec.cautions_on class lines.old.items ++ spec.line_cautions class line.entry) }
 {
-    if has_sign(line.bytes) {
+    if may_hold(line.bytes) {
         lines.push(line)?;
     }
     Ok(())
 }
 
-// Appends the physical lines of a file that have a sign.
+// Appends the physical lines of a file that may have the construct of a class.
 fn push_signed_lines<'a>(
     file: u32,
     text: &'a [u8],
@@ -66,7 +75,7 @@ fn push_signed_lines<'a>(
     Ok(())
 }
 
-// Appends the physical lines of a file with a sign, if it can be a file of a policy.
+// Appends these lines of a file, if it can be a file of a policy.
 fn push_file<'a>(
     file: usize,
     text: &'a [u8],
@@ -82,7 +91,7 @@ fn push_file<'a>(
     }
 }
 
-/// Returns the physical lines of files with a sign: no other line has a caution. Returns `AllocError` if allocation fails.
+/// Returns the physical lines of files that may have a caution. Returns `AllocError` if allocation fails.
 pub(crate) fn signed_lines<'a>(
     alloc: Global,
     texts: &[&'a [u8]],

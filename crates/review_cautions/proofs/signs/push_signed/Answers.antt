@@ -7,10 +7,10 @@ use Rattle.review_cautions.specs.Body.Signs.{cautions_on}
 use Rattle.review_cautions.proofs.SignLaws.{quiet}
 use Rattle.review_cautions.proofs.signs.push_signed.Goals as goal
 
-pub returns-else-has_sign : goal.returns-else-has_sign
-returns-else-has_sign c = λ class.
+pub returns-else-may_hold : goal.returns-else-may_hold
+returns-else-may_hold c = λ class.
     let l = c.args.line in
     let none : is_marked class l.continuing l.bytes.now (first_line (cut l.after.now)) ≡ false =
-    quiet class l.continuing l.bytes.now (first_line (cut l.after.now)) (sym c.has_sign.ensures ∙ c.if-has_sign.false) in
+    quiet class l.continuing l.bytes.now (first_line (cut l.after.now)) (sym c.may_hold.ensures ∙ c.if-may_hold.false) in
     sym (ap (λ (t : Bool). cautions_on class c.args.lines.now.items ++ (if t then caution_at class l.place ∷ [] else [])) none
     ∙ append-nil (cautions_on class c.args.lines.now.items))
