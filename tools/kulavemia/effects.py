@@ -16,6 +16,8 @@ OTHER = "other"
 _BRACKETS = ("caret", "bracket")
 # Users and hosts stand before the first equals sign, and the hosts of a further section behind a colon that no path follows.
 _HOST_BRACKET = re.compile(r"(?:^|:(?![ \t]*/))(?:\\.|[^=\\])*\[(?:\\.|[^=\\])*=", re.DOTALL)
+# A `%`, or what may yield one, behind the colon of a list to run as: sudo refuses a group by its sign there.
+_GROUP_BY_SIGN = re.compile(r"\(.*:.*[%\\]", re.DOTALL)
 
 
 class Effect(NamedTuple):
@@ -84,6 +86,8 @@ def effect_of(caution: Caution) -> Effect:
         return _DEFAULTS.get(caution.text.partition(":")[0], _UNKNOWN)
     if caution.kind in _BRACKETS and not _has_host_bracket(caution.line):
         return Effect(COMMANDS, _LISTED)
+    if caution.kind == "group-form" and (not caution.line or _GROUP_BY_SIGN.search(caution.line)):
+        return Effect(WHO, _LINE)
     return _CLASSES.get(caution.kind, _UNKNOWN)
 
 

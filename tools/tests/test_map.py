@@ -187,11 +187,23 @@ class Effects(unittest.TestCase):
             self.assertEqual(self.effect(name, "alice ALL = /bin/ls"), effects.WHO, name)
         for name in ("linked", "sudoedit", "setenv"):
             self.assertEqual(self.effect(name, "alice ALL = /bin/ls"), effects.COMMANDS, name)
-        for name in ("unknown-parameter", "group-form"):
-            self.assertEqual(self.effect(name, "alice ALL = /bin/ls"), effects.OTHER, name)
+        self.assertEqual(self.effect("unknown-parameter", "alice ALL = /bin/ls"), effects.OTHER)
         for name in ("setenv", "runchroot"):
             meaning = effects.effect_of(Caution("p:1", "defaults", f"{name}: decides")).meaning
             self.assertIn("a listed command may be worth any command", meaning)
+
+    def test_groups_to_run_with(self) -> None:
+        for line, answers in (
+            ("alice ALL = (:operator) /bin/id", effects.OTHER),
+            ("%adm ALL = (root) /bin/ls, (:operator) /bin/id", effects.OTHER),
+            ("alice ALL = (root : %adm) ALL", effects.WHO),
+            ('alice ALL = (root : adm, "%#4") ALL', effects.WHO),
+            (r"alice ALL = (root : \x25adm) ALL", effects.WHO),
+            ("alice ALL = /bin/ls, \\", effects.OTHER),
+            ("alice ALL = (root : \\", effects.WHO),
+            ("", effects.WHO),
+        ):
+            self.assertEqual(self.effect("group-form", line), answers, line)
 
     def test_brackets(self) -> None:
         for line, answers in (
