@@ -1,6 +1,6 @@
 -- Classes of asks: the asks that are in them, and the blocks that decide these.
-use Rattle.std.proofs.Common.{◌≡◌, ◌<◌, ◌+◌, ◌∙◌, ◌⊎◌, inl, inr, ℕ, zero, suc, Bool, true, false, cond, ◌&&◌, List, [], ◌∷◌, ◌++◌, ap}
-use Rattle.std.proofs.Common.{arith, refl, sym, subst, get_or, length, take, Option, None, Some}
+use Rattle.std.proofs.Common.{◌≡◌, ◌<◌, ◌+◌, ◌∙◌, ◌⊎◌, inl, inr, ℕ, zero, suc, Bool, true, false, cond, List, [], ◌∷◌, ◌++◌, ap}
+use Rattle.std.proofs.Common.{arith, refl, sym, subst, get_or, length, take, Option}
 use Rattle.std.specs.Prelude.{filter, slice_set}
 use Rattle.std.specs.List.{Contains, list_all}
 use Rattle.std.proofs.lemmas.Bool.{and_from, and_parts}
@@ -21,7 +21,7 @@ use Rattle.review_compare.specs.declared.pair.Pair.{Pair}
 use Rattle.review_compare.specs.declared.spot.Listed.{Listed}
 use Rattle.review_compare.specs.Body.AskClasses.{AddsAsked, AreAsked, Decide, HaveAsk, IsAskClass, IsAskedWith}
 use Rattle.review_compare.specs.Body.Classes.{AreSameBlocks}
-use Rattle.review_compare.specs.Body.Chosen.{HaveAllOf, chosen, deciders_at, host_at, runas_at, standing_among, standing_at, user_at}
+use Rattle.review_compare.specs.Body.Chosen.{HaveAllOf, chosen, deciders_at, host_at, runas_at, standing_among, user_at}
 use Rattle.review_compare.specs.Body.Near.{each_one, near_deciders}
 use Rattle.review_compare.proofs.ChosenLemmas.{no-host, stands-at}
 use Rattle.review_compare.proofs.UnchangedLemmas.{other-host-runas}

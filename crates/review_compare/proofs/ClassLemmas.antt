@@ -19,12 +19,11 @@ use Rattle.review_compare.specs.declared.pair.Pair.{Pair}
 use Rattle.review_compare.specs.declared.row.Row.{Row}
 use Rattle.review_compare.specs.declared.spot.Listed.{Listed}
 use Rattle.review_compare.specs.declared.spot.Spot.{Spot}
-use Rattle.review_compare.specs.Blocks.{AreBlocks}
-use Rattle.review_compare.specs.Cells.{Decider, SaySame, deciders, verdict_among}
+use Rattle.review_compare.specs.Cells.{Decider, SaySame, deciders}
 use Rattle.review_compare.specs.Compared.{said}
 use Rattle.review_compare.specs.Differences.{Finds, FoundIf, IsDone, IsFound, SameIf, has_cell, known_at, question_at, same_number}
 use Rattle.review_compare.specs.Witnesses.{IsCompared}
-use Rattle.review_compare.specs.Body.Chosen.{AreListed, deciders_at, listed_at, runas_at, standing_among, standing_at}
+use Rattle.review_compare.specs.Body.Chosen.{AreListed, deciders_at, listed_at, runas_at, standing_at}
 use Rattle.review_compare.specs.Body.ChangedRows.{AreChanged}
 use Rattle.review_compare.specs.Body.Near.{each_one, near_deciders}
 use Rattle.review_compare.specs.Body.Classes.{AreMoved, AreSameBlocks, IsMoved}

@@ -1,7 +1,7 @@
 -- The cells that are done.
-use Rattle.std.proofs.Common.{◌≡◌, ◌<◌, ◌≤◌, ◌+◌, ◌∙◌, ◌⊎◌, inl, inr, ℕ, zero, suc, Bool, true, false, ◌&&◌, List, [], ◌∷◌, ◌++◌, map}
+use Rattle.std.proofs.Common.{◌≡◌, ◌<◌, ◌≤◌, ◌+◌, ◌∙◌, ◌⊎◌, inl, inr, ℕ, zero, suc, Bool, true, false, List, [], ◌∷◌, ◌++◌, map}
 use Rattle.std.proofs.Common.{cond, flat_map, ap, arith, refl, sym, subst, Option, None, Some, length, take, get_or}
-use Rattle.std.specs.Prelude.{◌==◌, slice_get}
+use Rattle.std.specs.Prelude.{slice_get}
 use Rattle.std.specs.List.{range_with_len, Contains}
 use Rattle.std.proofs.lemmas.Bool.{and_parts, eqb-true}
 use Rattle.std.proofs.lemmas.List.Elements.{Contains-append_left, Contains-push, Contains-push_cases}
@@ -11,18 +11,15 @@ use Rattle.review_roots.proofs.ListSteps.{flat-range, take-more}
 use Rattle.review_compare.specs.declared.cell.Ask.{Ask}
 use Rattle.review_compare.specs.declared.cell.Cell.{Cell}
 use Rattle.review_compare.specs.declared.compared.Compared.{Compared}
-use Rattle.review_compare.specs.declared.compared.Compared.TheVariants as compared
 use Rattle.review_compare.specs.declared.pair.Pair.{Pair}
 use Rattle.review_compare.specs.declared.spot.Spot.{Spot}
 use Rattle.review_compare.specs.declared.row.Row.{Row}
-use Rattle.review_compare.specs.Differences.{Finds, IsFound, IsDone, SameIf, question_at, question_if, has_cell, known_at}
+use Rattle.review_compare.specs.Differences.{Finds, IsFound, IsDone, SameIf, question_at, question_if, known_at}
 use Rattle.review_compare.specs.Differences.{same_number, is_this_host}
 use Rattle.review_compare.specs.Differences.{is_this_user, is_host_if, is_user_if, all_asks, AreDifferences}
 use Rattle.sudo_verdict.specs.Questions.{Question, question_as}
 use Rattle.review_compare.proofs.UnchangedLemmas.{less-or}
-use Rattle.review_compare.specs.Cells.{SaySame, deciders}
-use Rattle.review_compare.specs.Witnesses.{IsCompared}
-use Rattle.review_compare.proofs.CellLemmas.{rows_say_same}
+use Rattle.review_compare.specs.Cells.{SaySame}
 use Rattle.review_compare.specs.Body.Merged.{same_numbers, AbsorbsAll}
 use Rattle.review_compare.specs.Body.Progress.{Progress, IsSpot, IsOn, IsOnAsked, IsOnEach, IsBefore, IsForAsked, IsForUser}
 use Rattle.review_compare.specs.Body.Progress.{IsUserBefore}

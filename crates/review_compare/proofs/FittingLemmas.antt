@@ -12,7 +12,6 @@ use Rattle.review_compare.specs.declared.changed.Changed.{Changed}
 use Rattle.review_compare.specs.declared.fitting.Fitting.{Fitting}
 use Rattle.review_compare.specs.declared.witness.Witness.{Witness}
 use Rattle.review_compare.specs.Cells.{Decider, answered_if_any, verdict_among}
-use Rattle.review_compare.specs.Witnesses.{IsWitness}
 use Rattle.review_compare.specs.Body.ChangedRows.{is_fitted}
 use Rattle.review_compare.specs.Body.Fitting.{AreFitting, fits_path, row_fits_path}
 use Rattle.review_compare.specs.Body.Shown.{IsShownWitness, all_shown}

@@ -1,6 +1,6 @@
 -- Rows that become one, and rows that are added to others.
 use Rattle.std.proofs.Common.{◌≡◌, ◌<◌, ◌∙◌, ◌⊎◌, inl, inr, ℕ, zero, suc, Bool, true, false, ◌&&◌, ◌||◌, List, [], ◌∷◌, ◌++◌, ap, arith}
-use Rattle.std.proofs.Common.{refl, sym, get_or, length}
+use Rattle.std.proofs.Common.{All, refl, sym, get_or, length}
 use Rattle.std.specs.Prelude.{◌==◌, slice_set}
 use Rattle.std.specs.List.{list_any}
 use Rattle.std.proofs.lemmas.Bool.{or_cases, or_left, or_right}
@@ -228,3 +228,17 @@ absorbs-more rows more mid new row all one = record {
         on (inl e) = inl e
         on (inr e) = inr (finds-first more (row ∷ []) c f e)
     from c f (inr here) = inr (finds-last more (row ∷ []) c f (inl here))
+
+-- ---- Elements of a list with one more
+
+pub all-before : {X : Type 0} (P : X → Type 0) (xs ys : List X) → All P (xs ++ ys) → All P xs
+all-before P [] ys all = λ n d less. absurd (omega (arith, less))
+all-before {X = X} P (x ∷ xs) ys all = by (all-before P xs ys (λ k z more. all (suc k) z (omega (arith, more))))
+  where
+    by : All P xs → (n : ℕ) (d : X) → n < length (x ∷ xs) → P (get_or (x ∷ xs) n d)
+    by rest zero d less = all 0 d (omega arith)
+    by rest (suc n) d less = rest n d (omega (arith, less))
+
+pub all-last : {X : Type 0} (P : X → Type 0) (xs : List X) (y : X) → All P (xs ++ y ∷ []) → P y
+all-last P [] y all = all 0 y (omega arith)
+all-last P (x ∷ xs) y all = all-last P xs y (λ k z more. all (suc k) z (omega (arith, more)))

@@ -12,7 +12,6 @@ use Rattle.sudo_grammar.specs.declared.policy.Policy.{Policy}
 use Rattle.sudo_match.specs.declared.request.Tags.{Tags}
 use Rattle.sudo_match.specs.declared.request.Verdict.{Verdict}
 use Rattle.sudo_match.specs.Matching.{command_fits}
-use Rattle.sudo_policy.proofs.SurveyLemmas.{option_or-none}
 use Rattle.sudo_verdict.specs.Last.{last_that}
 use Rattle.sudo_verdict.specs.Questions.{Question}
 use Rattle.sudo_verdict.proofs.Lasts.{last_that-append}
@@ -29,8 +28,8 @@ use Rattle.review_compare.specs.Cells.{Decider, answer_between, answered_if_any,
 use Rattle.review_compare.specs.Compared.{said, same_answer, same_choice, same_choices}
 use Rattle.review_compare.specs.Witnesses.{IsCompared, IsWitness}
 use Rattle.review_compare.specs.Body.ChangedRows.{AreChanged, is_fitted, is_near}
-use Rattle.review_compare.specs.Body.Chosen.{chosen, deciders_at, deciders_if, deciders_of, standing_at, standing_if}
-use Rattle.review_compare.specs.Body.Near.{changed_rows, each_one, has_near, if_near, middle, near_at, near_deciders}
+use Rattle.review_compare.specs.Body.Chosen.{chosen, deciders_at, deciders_if, deciders_of, standing_if}
+use Rattle.review_compare.specs.Body.Near.{changed_rows, has_near, if_near, middle, near_at, near_deciders}
 use Rattle.review_compare.specs.Body.Unchanged.{AreCommon}
 use Rattle.review_compare.proofs.ChangedLemmas.{near-fits, or-parts, unfitted}
 use Rattle.review_compare.proofs.ChosenLemmas.{all-stand, blocks-decide}

@@ -1,12 +1,11 @@
 -- The rows of the comparison for a user on a host.
-use Rattle.std.proofs.Common.{◌≡◌, ◌<◌, ◌+◌, ◌∙◌, ◌⊎◌, inl, inr, ℕ, zero, suc, true, false, ◌&&◌, All, List, [], ◌∷◌, ◌++◌}
+use Rattle.std.proofs.Common.{◌≡◌, ◌<◌, ◌+◌, ◌∙◌, ◌⊎◌, inl, inr, ℕ, zero, suc, true, ◌&&◌, All, List, [], ◌∷◌, ◌++◌}
 use Rattle.std.proofs.Common.{ap, arith, refl, sym, subst, get_or, length, take, Option, None, Some}
-use Rattle.std.specs.Prelude.{◌==◌, IsPermutation, slice_index_or}
-use Rattle.std.specs.List.{Contains, list_any}
+use Rattle.std.specs.Prelude.{◌==◌, slice_index_or}
+use Rattle.std.specs.List.{list_any}
 use Rattle.std.proofs.lemmas.Bool.{and_from, and_parts, eqb-true, or_left, or_right}
 use Rattle.std.proofs.lemmas.List.Sorted.{list_any-IsPermutation}
 use Rattle.std.proofs.lemmas.Map.Views.{Contains-from_any}
-use Rattle.sudo_match.specs.declared.people.Person.{Person}
 use Rattle.sudo_verdict.specs.Questions.{Question}
 use Rattle.review_roots.proofs.ListSteps.{take-more}
 use Rattle.review_compare.specs.declared.ask_class.AskClass.{AskClass}
@@ -23,12 +22,12 @@ use Rattle.review_compare.specs.Differences.{Finds, FoundIf, IsDone, IsFound, Sa
 use Rattle.review_compare.specs.Witnesses.{IsCompared}
 use Rattle.review_compare.specs.Body.AskClasses.{AreAsked, HaveAsk, IsAskClass, IsAskedWith, on_new, on_old}
 use Rattle.review_compare.specs.Body.Comparisons.{IsCopy}
-use Rattle.review_compare.specs.Body.Merged.{Absorbs, AddsFound, AreOrdered, IsOfSpot, IsOrdered, IsRowOf}
+use Rattle.review_compare.specs.Body.Merged.{Absorbs, AddsFound, AreMerged, AreOrdered, IsOfSpot, IsOrdered, IsRowOf}
 use Rattle.review_compare.specs.Body.Progress.{IsOn, IsSpot, Progress, cell_at, question_of}
 use Rattle.review_compare.proofs.AskLemmas.{asked-cases, asked-first, asked-last, classes-cases}
 use Rattle.review_compare.proofs.CellLemmas.{rows_say_same}
 use Rattle.review_compare.proofs.ClassLemmas.{or-false, same-self, single}
-use Rattle.review_compare.proofs.DifferenceLemmas.{nothing-added, numbers-same, spot-question, went-on}
+use Rattle.review_compare.proofs.DifferenceLemmas.{all-added, nothing-added, numbers-same, spot-question, went-on}
 use Rattle.review_compare.proofs.NearLemmas.{changed_by, compared-moved, near_new, near_old, pair-all, pair-near}
 
 -- ---- The cells of a row
@@ -238,7 +237,7 @@ ordered-finds (r ∷ rows) [] are c f e = absurd are
 ordered-finds (r ∷ rows) (s ∷ os) are c f (inl here) = inl (sym (ordered-has r s are.0 c) ∙ here.0, sym (are.0).found ∙ here.1)
 ordered-finds (r ∷ rows) (s ∷ os) are c f (inr more) = inr (ordered-finds rows os are.1 c f more)
 
-pub ordered-done : (p : Pair) (rows os : List Row) (P : Cell → Type 0) → AreOrdered rows os → Progress p [] rows P → Progress p [] os P
+ordered-done : (p : Pair) (rows os : List Row) (P : Cell → Type 0) → AreOrdered rows os → Progress p [] rows P → Progress p [] os P
 ordered-done p rows os P are so_far = record {
   kept = λ c f e. absurd e;
   right = λ right c f e. so_far.right right c f (ordered-finds rows os are c f e);
@@ -250,7 +249,7 @@ ordered-done p rows os P are so_far = record {
     go c (inl same) = inl same
     go c (inr e) = inr (e.0, finds-ordered rows os are c e.0 e.1)
 
-pub ordered-spot : (user host : ℕ) (rows os : List Row) → AreOrdered rows os → All (IsOfSpot user host) rows →
+ordered-spot : (user host : ℕ) (rows os : List Row) → AreOrdered rows os → All (IsOfSpot user host) rows →
     All (IsOfSpot user host) os
 ordered-spot user host [] [] are all = all
 ordered-spot user host [] (s ∷ os) are all = absurd are
@@ -264,6 +263,16 @@ ordered-spot user host (r ∷ rows) (s ∷ os) are all =
     by : All (IsOfSpot user host) os → (n : ℕ) (d : Row) → n < length (s ∷ os) → IsOfSpot user host (get_or (s ∷ os) n d)
     by rest zero d less = ((are.0).users ∙ first.0, (are.0).hosts ∙ first.1)
     by rest (suc n) d less = rest n d (omega (arith, less))
+
+-- rows of which some became one
+pub merged-done : (p : Pair) (rows new : List Row) (P : Cell → Type 0) → AreMerged rows new → Progress p [] rows P → Progress p [] new P
+merged-done p rows new P are so_far =
+    all-added p [] are.ordered new P (ordered-done p rows are.ordered P are.are_ordered so_far) are.are_grouped.absorbed
+
+pub merged-spot : (user host : ℕ) (rows new : List Row) → AreMerged rows new → All (IsOfSpot user host) rows →
+    All (IsOfSpot user host) new
+merged-spot user host rows new are all =
+    are.are_grouped.of_spot user host (ordered-spot user host rows are.ordered are.are_ordered all)
 
 pub ordered-more : (rows os : List Row) (r s : Row) → AreOrdered rows os → IsOrdered r s → AreOrdered (rows ++ r ∷ []) (os ++ s ∷ [])
 ordered-more [] [] r s are is = (is, tt)

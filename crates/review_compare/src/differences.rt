@@ -337,7 +337,7 @@ fn rows_where_asked(
 /// policies say the same to every command.
 ///
 /// Of cells that differ in the target alone, in the order of the known users, those of which the same is found are one row; and
-/// then rows that differ in the host alone, and in the user alone. Returns `AllocError` if allocation fails.
+/// then rows that differ in the group alone, in the host alone, and in the user alone. Returns `AllocError` if allocation fails.
 pub fn compared_policies(
     alloc: Global,
     old: &Checked,

@@ -181,7 +181,7 @@ impl Row {
     fn extend(&mut self, other: &Row, dimension: Dimension) -> Result<(), AllocError>
         requires { body.AreLike dimension self.old other.now }
         ensures joined { OnOk result (body.IsJoined self.old other.now self.new) }
-        ensures of_spot { OnOk result (dimension ≡ Dimension.Targets
+        ensures of_spot { OnOk result (body.keeps_spot dimension ≡ true
             → (self.new.users ≡ self.old.users) × (self.new.hosts ≡ self.old.hosts)) }
     {
         match dimension {
@@ -210,7 +210,7 @@ fn like_index(rows: &[Row], row: &Row, dimension: Dimension) -> Option<usize>
 /// allocation fails.
 pub(crate) fn absorb(rows: &mut Vec<Row>, row: Row, dimension: Dimension) -> Result<(), AllocError>
     ensures absorbed { OnOk result (body.Absorbs rows.old.items row rows.new.items) }
-    ensures of_spot { OnOk result (dimension ≡ Dimension.Targets → (user host : ℕ)
+    ensures of_spot { OnOk result (body.keeps_spot dimension ≡ true → (user host : ℕ)
         → body.IsOfSpot user host row → All (body.IsOfSpot user host) rows.old.items
         → All (body.IsOfSpot user host) rows.new.items) }
 {
@@ -259,8 +259,8 @@ fn ordered_row(row: Row) -> Row
     }
 }
 
-/// Returns the rows, the targets of each in order. Returns `AllocError` if allocation fails.
-pub(crate) fn ordered(alloc: Global, rows: Vec<Row>) -> Result<Vec<Row>, AllocError>
+// Returns the rows, the targets of each in order.
+fn ordered(alloc: Global, rows: Vec<Row>) -> Result<Vec<Row>, AllocError>
     ensures { IfOk result (λ ordered. body.AreOrdered rows.items ordered.items) }
 {
     let mut ordered = Vec::new(alloc);
@@ -268,6 +268,26 @@ pub(crate) fn ordered(alloc: Global, rows: Vec<Row>) -> Result<Vec<Row>, AllocEr
         ordered.push(ordered_row(row))?;
     }
     Ok(ordered)
+}
+
+// Returns the rows, those that differ in the group alone as one.
+fn grouped(alloc: Global, rows: Vec<Row>) -> Result<Vec<Row>, AllocError>
+    ensures { IfOk result (λ grouped. body.AreGrouped rows.items grouped.items) }
+{
+    let mut grouped = Vec::new(alloc);
+    for row in rows {
+        absorb(&mut grouped, row, Dimension::Groups)?;
+    }
+    Ok(grouped)
+}
+
+/// Returns the rows, the targets of each in order, and those that differ in the group alone as one. Returns `AllocError` if
+/// allocation fails.
+pub(crate) fn merged(alloc: Global, rows: Vec<Row>) -> Result<Vec<Row>, AllocError>
+    ensures { IfOk result (λ merged. body.AreMerged rows.items merged.items) }
+{
+    let ordered = ordered(alloc, rows)?;
+    grouped(alloc, ordered)
 }
 
 // Whether the first of them is asked for.

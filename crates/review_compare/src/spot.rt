@@ -11,7 +11,7 @@ use crate::compared::Compared;
 use crate::comparison::{Comparison, found_of};
 use crate::copied::copied;
 use crate::pair::Pair;
-use crate::row::{Dimension, Row, absorb, ordered};
+use crate::row::{Dimension, Row, absorb, merged};
 use std::alloc::{AllocError, Global};
 use sudo_match::{Machine, Person};
 
@@ -131,5 +131,5 @@ pub(crate) fn rows_on(
     for class in classes {
         add_class(alloc, pair, spot, class, comparisons, &mut rows)?;
     }
-    ordered(alloc, rows)
+    merged(alloc, rows)
 }

@@ -1,5 +1,5 @@
 -- Rows that become one; only proofs of bodies need these definitions.
-use Rattle.std.specs.Prelude.{IsPermutation, ◌≡◌, ◌⊎◌, ℕ, Bool, true, false, ◌&&◌, ◌||◌, ◌==◌, List, [], ◌∷◌, Option}
+use Rattle.std.specs.Prelude.{All, IsPermutation, ◌≡◌, ◌⊎◌, ℕ, Bool, true, false, ◌&&◌, ◌||◌, ◌==◌, List, [], ◌∷◌, Option}
 use Rattle.review_compare.specs.declared.ask_class.AskedWith.{AskedWith}
 use Rattle.review_compare.specs.declared.cell.Ask.{Ask}
 use Rattle.review_compare.specs.declared.cell.Cell.{Cell}
@@ -25,6 +25,13 @@ AreLike dimension.Users r s = (r.hosts ≡ s.hosts) × (r.targets ≡ s.targets)
 AreLike dimension.Hosts r s = (r.users ≡ s.users) × (r.targets ≡ s.targets) × (r.groups ≡ s.groups) × (r.found ≡ s.found)
 AreLike dimension.Targets r s = (r.users ≡ s.users) × (r.hosts ≡ s.hosts) × (r.groups ≡ s.groups) × (r.found ≡ s.found)
 AreLike dimension.Groups r s = (r.users ≡ s.users) × (r.hosts ≡ s.hosts) × (r.targets ≡ s.targets) × (r.found ≡ s.found)
+
+-- rows that differ in this alone are of the same users and hosts
+abbrev pub keeps_spot : Dimension → Bool
+keeps_spot dimension.Users = false
+keeps_spot dimension.Hosts = false
+keeps_spot dimension.Targets = true
+keeps_spot dimension.Groups = true
 
 -- a row of the user on the host alone
 abbrev pub IsOfSpot : ℕ → ℕ → Row → Type 0
@@ -75,3 +82,14 @@ pub record AbsorbsAll (old more new : List Row) : Type 0 where
   pub kept : (c : Cell) (f : Compared) → Finds old c f → Finds new c f
   pub added : (c : Cell) (f : Compared) → Finds more c f → Finds new c f
   pub only : (c : Cell) (f : Compared) → Finds new c f → Finds old c f ⊎ Finds more c f
+
+-- the rows, some of them as one: all are of the users and hosts of these
+pub record AreGrouped (rows new : List Row) : Type 0 where
+  pub absorbed : AbsorbsAll [] rows new
+  pub of_spot : (user host : ℕ) → All (IsOfSpot user host) rows → All (IsOfSpot user host) new
+
+-- the rows with their targets in another order, and then some of them as one
+pub record AreMerged (rows new : List Row) : Type 0 where
+  pub ordered : List Row
+  pub are_ordered : AreOrdered rows ordered
+  pub are_grouped : AreGrouped ordered new

@@ -5,7 +5,7 @@ use Rattle.review_compare.specs.declared.ask_class.AskClass.{AskClass}
 use Rattle.review_compare.specs.declared.row.Row.{Row}
 use Rattle.review_compare.specs.Body.AskClasses.{HaveAsk}
 use Rattle.review_compare.specs.Body.Progress.{IsOn, Progress}
-use Rattle.review_compare.proofs.SpotLemmas.{class-more, ordered-done, ordered-spot}
+use Rattle.review_compare.proofs.SpotLemmas.{class-more, merged-done, merged-spot}
 use Rattle.review_compare.proofs.spot.rows_on.Goals as goal
 
 pub loop-class-preserved : goal.loop-class-preserved
@@ -26,12 +26,12 @@ returns c =
     let done = subst (λ (js : List AskClass). Progress p [] c.loop-class.rows.items (IsOn s.user s.host (HaveAsk js)))
     (take_all c.loop-class.class-index ks (omega (arith, c.loop-class-test.false))) c.loop-class.invariant.0 in
     record {
-      all = IfOk-weaker c.ordered.result _ _
-          (λ (os : Vec Row Global) are.
-          ordered-done p c.loop-class.rows.items os.items (IsOn s.user s.host (HaveAsk ks)) are done)
-          c.ordered.ensures;
-      right = IfOk-weaker c.ordered.result _ _ (λ (os : Vec Row Global) are. c.loop-class.invariant.1) c.ordered.ensures;
-      of_spot = IfOk-weaker c.ordered.result _ _
-          (λ (os : Vec Row Global) are. ordered-spot s.user s.host c.loop-class.rows.items os.items are c.loop-class.invariant.2)
-          c.ordered.ensures;
+      all = IfOk-weaker c.merged.result _ _
+          (λ (new : Vec Row Global) are.
+          merged-done p c.loop-class.rows.items new.items (IsOn s.user s.host (HaveAsk ks)) are done)
+          c.merged.ensures;
+      right = IfOk-weaker c.merged.result _ _ (λ (new : Vec Row Global) are. c.loop-class.invariant.1) c.merged.ensures;
+      of_spot = IfOk-weaker c.merged.result _ _
+          (λ (new : Vec Row Global) are. merged-spot s.user s.host c.loop-class.rows.items new.items are c.loop-class.invariant.2)
+          c.merged.ensures;
     }

@@ -1,4 +1,4 @@
-use Rattle.std.proofs.Common.{◌≡◌, ◌∙◌, ap, List, subst, sym}
+use Rattle.std.proofs.Common.{◌∙◌, List, subst, sym}
 use Rattle.review_compare.specs.declared.ruling.Ruled.{Ruled}
 use Rattle.review_compare.specs.declared.witness.Witness.{Witness}
 use Rattle.review_compare.specs.Body.Shown.{IsShownWitness}
