@@ -21,7 +21,7 @@ use Rattle.sudo_verdict.specs.Questions.{Question, question_as}
 use Rattle.review_compare.proofs.UnchangedLemmas.{less-or}
 use Rattle.review_compare.specs.Cells.{SaySame}
 use Rattle.review_compare.specs.Body.Merged.{same_numbers, AbsorbsAll}
-use Rattle.review_compare.specs.Body.Progress.{Progress, IsSpot, IsOn, IsOnAsked, IsOnEach, IsBefore, IsForAsked, IsForUser}
+use Rattle.review_compare.specs.Body.Progress.{Progress, IsSpot, IsOnAsked, IsOnEach, IsBefore, IsForAsked, IsForUser}
 use Rattle.review_compare.specs.Body.Progress.{IsUserBefore}
 use Rattle.review_compare.specs.Body.Progress.{AreLeft, AreLeftForAll, AreLeftUnless, IsAsked, SayAllSame, ask_of, cell_at, question_of}
 
@@ -132,39 +132,12 @@ other-host p rows s scope asked at other =
         ap (λ i. is_host_if scope (slice_get p.directory.now.machines i)) is ∙ ap (is_host_if scope) at.1 ∙ other in
         let bad : true ≡ false = sym yes1 ∙ here in cc
 
-pub on-host : (p : Pair) (rows new : List Row) (s : Spot) (scope : Option Machine) (asked : Ask → Type 0) →
-    Progress p rows new (IsOn s.user s.host asked) → Progress p rows new (IsOnAsked p scope s.user s.host asked)
-on-host p rows new s scope asked on = record { kept = on.kept; right = on.right; done = λ c at. on.done c at.0 }
-
-pub host-more : (p : Pair) (rows new : List Row) (user host : ℕ) (scope : Option Machine) (asked : Ask → Type 0) →
-    Progress p [] rows (IsBefore p scope user host asked) → Progress p rows new (IsOnAsked p scope user host asked) →
-    Progress p [] new (IsBefore p scope user (host + 1) asked)
-host-more p rows new user host scope asked so_far one =
-    went-on p [] rows new (IsBefore p scope user host asked) (IsOnAsked p scope user host asked) (IsBefore p scope user (host + 1) asked)
-    (λ c at. go c at (less-or c.host host at.1)) so_far one
-  where
-    go : (c : Cell) → IsBefore p scope user (host + 1) asked c → (c.host < host) ⊎ (c.host ≡ host) →
-        IsBefore p scope user host asked c ⊎ IsOnAsked p scope user host asked c
-    go c at (inl less) = inl (at.0, less, at.2, at.3)
-    go c at (inr is) = inr ((at.0, is, at.2), at.3)
-
-pub hosts-none : (p : Pair) (scope : Option Machine) (user : ℕ) (asked : Ask → Type 0) → Progress p [] [] (IsBefore p scope user 0 asked)
-hosts-none p scope user asked = started p [] (IsBefore p scope user 0 asked) (λ c at. omega (arith, at.1))
-
-pub hosts-all : (p : Pair) (rows : List Row) (scope : Option Machine) (user n : ℕ) (asked : Ask → Type 0) →
-    length p.directory.now.machines ≤ n → Progress p [] rows (IsBefore p scope user n asked) →
-    Progress p [] rows (IsOnEach p scope user asked)
-hosts-all p rows scope user n asked all so_far = record {
-  kept = so_far.kept;
-  right = so_far.right;
-  done = λ c at. so_far.done c (
-    at.0,
-    (let less = there-of (is_host_if scope) p.directory.now.machines c.host refl at.2 in omega
-        (arith, less, all)),
-    at.1,
-    at.2,
-  );
-}
+-- the hosts before the last are all
+pub each-before : (p : Pair) (scope : Option Machine) (user n : ℕ) (asked : Ask → Type 0) (c : Cell) →
+    length p.directory.now.machines ≤ n → IsOnEach p scope user asked c → IsBefore p scope user n asked c
+each-before p scope user n asked c all at =
+    let less = there-of (is_host_if scope) p.directory.now.machines c.host refl at.2 in
+    (at.0, omega (arith, less, all), at.1, at.2)
 
 -- the asks that are in the classes are all
 pub each-asked : (p : Pair) (rows : List Row) (scope : Option Machine) (user : ℕ) (asked : Ask → Type 0) (asks : List Ask) →

@@ -1,10 +1,10 @@
 -- The rows of the comparison for a user on a host.
 use Rattle.std.proofs.Common.{◌≡◌, ◌<◌, ◌+◌, ◌∙◌, ◌⊎◌, inl, inr, ℕ, zero, suc, true, ◌&&◌, All, List, [], ◌∷◌, ◌++◌}
 use Rattle.std.proofs.Common.{ap, arith, refl, sym, subst, get_or, length, take, Option, None, Some}
-use Rattle.std.specs.Prelude.{◌==◌, slice_index_or}
+use Rattle.std.specs.Prelude.{IsPermutation, ◌==◌, slice_index_or}
 use Rattle.std.specs.List.{list_any}
 use Rattle.std.proofs.lemmas.Bool.{and_from, and_parts, eqb-true, or_left, or_right}
-use Rattle.std.proofs.lemmas.List.Sorted.{list_any-IsPermutation}
+use Rattle.std.proofs.lemmas.List.Sorted.{length_permutation, list_any-IsPermutation}
 use Rattle.std.proofs.lemmas.Map.Views.{Contains-from_any}
 use Rattle.sudo_verdict.specs.Questions.{Question}
 use Rattle.review_roots.proofs.ListSteps.{take-more}
@@ -215,8 +215,9 @@ ordered-has : (r s : Row) → IsOrdered r s → (c : Cell) → has_cell s c ≡ 
 ordered-has r s is c =
     ap (λ us. (list_any (λ u. u == c.user) us && list_any (λ m. m == c.host) s.hosts)
     && (list_any (same_number c.ask.target) s.targets && list_any (same_number c.ask.group) s.groups)) is.users
-    ∙ ap (λ hs. (list_any (λ u. u == c.user) r.users && list_any (λ m. m == c.host) hs)
-    && (list_any (same_number c.ask.target) s.targets && list_any (same_number c.ask.group) s.groups)) is.hosts
+    ∙ ap (λ b. (list_any (λ u. u == c.user) r.users && b)
+    && (list_any (same_number c.ask.target) s.targets && list_any (same_number c.ask.group) s.groups))
+    (sym (list_any-IsPermutation (λ m. m == c.host) r.hosts s.hosts is.hosts))
     ∙ ap (λ b. (list_any (λ u. u == c.user) r.users && list_any (λ m. m == c.host) r.hosts)
     && (b && list_any (same_number c.ask.group) s.groups)) (sym (list_any-IsPermutation (same_number c.ask.target) r.targets s.targets
     is.targets))
@@ -237,7 +238,7 @@ ordered-finds (r ∷ rows) [] are c f e = absurd are
 ordered-finds (r ∷ rows) (s ∷ os) are c f (inl here) = inl (sym (ordered-has r s are.0 c) ∙ here.0, sym (are.0).found ∙ here.1)
 ordered-finds (r ∷ rows) (s ∷ os) are c f (inr more) = inr (ordered-finds rows os are.1 c f more)
 
-ordered-done : (p : Pair) (rows os : List Row) (P : Cell → Type 0) → AreOrdered rows os → Progress p [] rows P → Progress p [] os P
+pub ordered-done : (p : Pair) (rows os : List Row) (P : Cell → Type 0) → AreOrdered rows os → Progress p [] rows P → Progress p [] os P
 ordered-done p rows os P are so_far = record {
   kept = λ c f e. absurd e;
   right = λ right c f e. so_far.right right c f (ordered-finds rows os are c f e);
@@ -248,6 +249,16 @@ ordered-done p rows os P are so_far = record {
         IsDone p.old.checked.now p.new.checked.now p.directory.now p.groups.now os c
     go c (inl same) = inl same
     go c (inr e) = inr (e.0, finds-ordered rows os are c e.0 e.1)
+
+-- one number in another order is the same
+only-one : (x : ℕ) (ys : List ℕ) → IsPermutation (x ∷ []) ys → ys ≡ x ∷ []
+only-one x [] p = let long : 0 ≡ 1 = length_permutation (x ∷ []) [] p in absurd (omega (arith, long))
+only-one x (y ∷ z ∷ ys) p =
+    let long : length (y ∷ z ∷ ys) ≡ 1 = length_permutation (x ∷ []) (y ∷ z ∷ ys) p in absurd (omega (arith, long))
+only-one x (y ∷ []) p =
+    let there : (y == x) ≡ true = sym (or-false (y == x)) ∙ sym (list_any-IsPermutation (λ n. n == x) (x ∷ []) (y ∷ []) p)
+    ∙ single x x ∙ same-self x in
+    ap (λ n. n ∷ []) (eqb-true y x there)
 
 ordered-spot : (user host : ℕ) (rows os : List Row) → AreOrdered rows os → All (IsOfSpot user host) rows →
     All (IsOfSpot user host) os
@@ -261,7 +272,7 @@ ordered-spot user host (r ∷ rows) (s ∷ os) are all =
     first = all 0 r (omega arith)
 
     by : All (IsOfSpot user host) os → (n : ℕ) (d : Row) → n < length (s ∷ os) → IsOfSpot user host (get_or (s ∷ os) n d)
-    by rest zero d less = ((are.0).users ∙ first.0, (are.0).hosts ∙ first.1)
+    by rest zero d less = ((are.0).users ∙ first.0, only-one host s.hosts (subst (λ hs. IsPermutation hs s.hosts) first.1 (are.0).hosts))
     by rest (suc n) d less = rest n d (omega (arith, less))
 
 -- rows of which some became one

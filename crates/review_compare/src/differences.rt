@@ -2,7 +2,8 @@
 ghost use Rattle.std.specs.Prelude.{◌≡◌, ◌++◌, ◌∷◌, [], All, if◌then◌else◌, IfOk, OnOk, Some, option_copied, slice_get};
 ghost use Rattle.review_compare.specs.Differences as differences;
 ghost use Rattle.review_compare.specs.Body.AskClasses.{HaveAsk, IsAskClass};
-ghost use Rattle.review_compare.specs.Body.Classes.{IsClass};
+ghost use Rattle.review_compare.specs.declared.cell.Cell.{Cell};
+ghost use Rattle.review_compare.specs.Body.Classes.{AddsCells, IsClass, IsClassed};
 ghost use Rattle.review_compare.specs.Body.Comparisons.{IsRight};
 ghost use Rattle.review_compare.specs.Body.Progress as body;
 
@@ -10,7 +11,7 @@ use crate::ask_class::{AskClass, ask_classes};
 use crate::asks::all_asks;
 use crate::cell::Ask;
 use crate::comparison::Comparison;
-use crate::host_class::{HostClass, add_spot};
+use crate::host_class::{HostClass, add_spot, rows_of};
 use crate::pair::Pair;
 use crate::row::{Dimension, Row, absorb_all};
 use crate::spot::{Listed, Spot};
@@ -67,7 +68,7 @@ fn listed_on(
     Ok(Listed { old, new })
 }
 
-// Adds what is found for the user on the host, if it is asked about.
+// Adds the host to the classes, if it is asked about and the policies may say something else there.
 fn add_host<'a>(
     alloc: Global,
     pair: &Pair<'_>,
@@ -77,7 +78,6 @@ fn add_host<'a>(
     asked: &[AskClass],
     classes: &mut Vec<HostClass<'a>>,
     comparisons: &mut Vec<Comparison>,
-    rows: &mut Vec<Row>,
 ) -> Result<(), AllocError>
     requires spot { body.IsSpot pair.now spot }
     requires listed { body.AreListedFor pair.now spot.person.now listed.now }
@@ -85,9 +85,9 @@ fn add_host<'a>(
     requires classes { All (IsClass pair.now spot.user spot.person.now (HaveAsk asked.now))
         classes.old.items }
     requires right { All (IsRight pair.now) comparisons.old.items }
-    ensures added { OnOk result (body.Progress pair.entry.now rows.old.items rows.new.items
+    ensures added { OnOk result (AddsCells pair.entry.now classes.old.items
         (body.IsOnAsked pair.entry.now (option_copied scope.entry) spot.entry.user
-        spot.entry.host (HaveAsk asked.entry.now))) }
+        spot.entry.host (HaveAsk asked.entry.now)) classes.new.items) }
     ensures classes { OnOk result (All (IsClass pair.entry.now spot.entry.user
         spot.entry.person.now (HaveAsk asked.entry.now)) classes.new.items) }
     ensures right { OnOk result (All (IsRight pair.entry.now) comparisons.new.items) }
@@ -99,7 +99,7 @@ fn add_host<'a>(
         return Ok(());
     }
     let on = listed_on(alloc, pair, spot, listed)?;
-    add_spot(alloc, pair, spot, on, asked, classes, comparisons, rows)
+    add_spot(alloc, pair, spot, on, asked, classes, comparisons)
 }
 
 // Appends an ask, if it is kept.
@@ -130,6 +130,51 @@ fn asks_left(
     Ok(left)
 }
 
+// Returns classes of the hosts that are asked about, for the user.
+fn classes_for<'a>(
+    alloc: Global,
+    pair: &Pair<'a>,
+    user: usize,
+    person: &'a Person,
+    scope: Option<&Machine>,
+    listed: &Listed,
+    asked: &[AskClass],
+    comparisons: &mut Vec<Comparison>,
+) -> Result<Vec<HostClass<'a>>, AllocError>
+    requires user { slice_get pair.now.directory.now.people user ≡ Some person.now }
+    requires listed { body.AreListedFor pair.now person.now listed.now }
+    requires asked { All (IsAskClass pair.now person.now) asked.now }
+    requires right { All (IsRight pair.now) comparisons.old.items }
+    ensures all { IfOk result (λ classes. (c : Cell) → body.IsOnEach pair.entry.now
+        (option_copied scope.entry) user (HaveAsk asked.entry.now) c
+        → IsClassed pair.entry.now classes.items c) }
+    ensures classes { IfOk result (λ classes. All (IsClass pair.entry.now user person.entry.now
+        (HaveAsk asked.entry.now)) classes.items) }
+    ensures right { OnOk result (All (IsRight pair.entry.now) comparisons.new.items) }
+{
+    let mut classes = Vec::new(alloc);
+    let machines = pair.directory.machines();
+    for host in 0..machines.len() {
+        let spot = Spot {
+            user,
+            host,
+            person,
+            machine: &machines[host],
+        };
+        add_host(
+            alloc,
+            pair,
+            spot,
+            scope,
+            listed,
+            asked,
+            &mut classes,
+            comparisons,
+        )?;
+    }
+    Ok(classes)
+}
+
 // Returns what is found for the user on the hosts that are asked about, where this is asked.
 fn rows_for_asked(
     alloc: Global,
@@ -150,29 +195,8 @@ fn rows_for_asked(
         (HaveAsk asked.entry.now))) }
     ensures right { OnOk result (All (IsRight pair.entry.now) comparisons.new.items) }
 {
-    let mut classes = Vec::new(alloc);
-    let mut rows = Vec::new(alloc);
-    let machines = pair.directory.machines();
-    for host in 0..machines.len() {
-        let spot = Spot {
-            user,
-            host,
-            person,
-            machine: &machines[host],
-        };
-        add_host(
-            alloc,
-            pair,
-            spot,
-            scope,
-            listed,
-            asked,
-            &mut classes,
-            comparisons,
-            &mut rows,
-        )?;
-    }
-    Ok(rows)
+    let classes = classes_for(alloc, pair, user, person, scope, listed, asked, comparisons)?;
+    rows_of(alloc, pair, user, person, asked, &classes)
 }
 
 // Returns what is found for the user on the hosts that are asked about. The machine is any known host.

@@ -10,17 +10,19 @@ use crate::ask_class::AskClass;
 use crate::comparison::{Comparison, are_same_indices};
 use crate::copied::copied;
 use crate::pair::Pair;
-use crate::row::{Dimension, Row, absorb_all};
+use crate::row::{Dimension, Row, absorb_all, ordered};
 use crate::spot::{Listed, Spot, rows_on};
 use std::alloc::{AllocError, Global};
+use sudo_match::Person;
 use sudo_text::Seq;
 
-/// A class of hosts on which the same blocks list a user: its first host, and the rows of the comparison there.
+/// A class of hosts on which the same blocks list a user: its first host, the rows of the comparison there, and all its hosts.
 #[derive(Drop)]
 pub(crate) struct HostClass<'a> {
     spot: Spot<'a>,
     listed: Listed,
     rows: Vec<Row>,
+    hosts: Vec<usize>,
 }
 
 /// Whether the blocks are the same.
@@ -46,53 +48,41 @@ fn class_index(classes: &[HostClass<'_>], listed: &Listed) -> Option<usize>
     None
 }
 
-// Returns the row for another host.
-fn moved_row(alloc: Global, row: &Row, host: usize) -> Result<Row, AllocError>
-    ensures { IfOk result (of_hosts.IsMoved host row.now) }
+// Returns the row for other hosts.
+fn moved_row(alloc: Global, row: &Row, hosts: &[usize]) -> Result<Row, AllocError>
+    ensures { IfOk result (of_hosts.IsMoved hosts.now row.now) }
 {
     Ok(Row {
         users: Seq::from_slice(alloc, row.users.as_slice())?,
-        hosts: Seq::from_slice(alloc, &[host])?,
+        hosts: Seq::from_slice(alloc, hosts)?,
         targets: Seq::from_slice(alloc, row.targets.as_slice())?,
         groups: Seq::from_slice(alloc, row.groups.as_slice())?,
         found: copied(alloc, &row.found)?,
     })
 }
 
-// Returns the rows for another host.
-fn moved_rows(alloc: Global, rows: &[Row], host: usize) -> Result<Vec<Row>, AllocError>
-    ensures { IfOk result (λ moved. of_hosts.AreMoved host rows.now moved.items) }
+// Returns the rows for other hosts.
+fn moved_rows(alloc: Global, rows: &[Row], hosts: &[usize]) -> Result<Vec<Row>, AllocError>
+    ensures { IfOk result (λ moved. of_hosts.AreMoved hosts.now rows.now moved.items) }
 {
     let mut moved = Vec::new(alloc);
     for row in rows {
-        moved.push(moved_row(alloc, row, host)?)?;
+        moved.push(moved_row(alloc, row, hosts)?)?;
     }
     Ok(moved)
 }
 
-// Adds the rows of the class to the others, for the host of the spot.
-fn add_moved(
-    alloc: Global,
-    pair: &Pair<'_>,
-    spot: Spot<'_>,
-    listed: &Listed,
-    asked: &[AskClass],
-    class: &HostClass<'_>,
-    rows: &mut Vec<Row>,
-) -> Result<(), AllocError>
-    requires spot { body.IsSpot pair.now spot }
-    requires listed { body.AreListedIn pair.now spot listed.now }
-    requires class { of_hosts.IsClass pair.now spot.user spot.person.now (HaveAsk asked.now)
-        class.now }
-    requires same { of_hosts.AreSameBlocks class.now.listed listed.now }
-    ensures { OnOk result (body.Progress pair.now rows.old.items rows.new.items
-        (body.IsOn spot.entry.user spot.entry.host (HaveAsk asked.now))) }
-{
-    let moved = moved_rows(alloc, &class.rows, spot.host)?;
-    absorb_all(rows, moved, Dimension::Hosts)
+impl HostClass<'_> {
+    // Adds a host.
+    fn add(&mut self, host: usize) -> Result<(), AllocError>
+        ensures { OnOk result (of_hosts.IsWith host self.old self.new) }
+    {
+        self.hosts.push(host)?;
+        Ok(())
+    }
 }
 
-// Compares the policies at the spot, adds the rows to the others, and makes the host the first of a class.
+// Compares the policies at the spot, and makes its host the first of a class.
 fn add_class<'a>(
     alloc: Global,
     pair: &Pair<'_>,
@@ -101,7 +91,6 @@ fn add_class<'a>(
     asked: &[AskClass],
     classes: &mut Vec<HostClass<'a>>,
     comparisons: &mut Vec<Comparison>,
-    rows: &mut Vec<Row>,
 ) -> Result<(), AllocError>
     requires spot { body.IsSpot pair.now spot }
     requires listed { body.AreListedIn pair.now spot listed }
@@ -109,24 +98,50 @@ fn add_class<'a>(
     requires classes { All (of_hosts.IsClass pair.now spot.user spot.person.now (HaveAsk asked.now))
         classes.old.items }
     requires right { All (IsRight pair.now) comparisons.old.items }
-    ensures added { OnOk result (body.Progress pair.entry.now rows.old.items rows.new.items
-        (body.IsOn spot.entry.user spot.entry.host (HaveAsk asked.entry.now))) }
+    ensures added { OnOk result (of_hosts.AddsHost classes.old.items spot.entry.host
+        classes.new.items) }
     ensures classes { OnOk result (All (of_hosts.IsClass pair.entry.now spot.entry.user
         spot.entry.person.now (HaveAsk asked.entry.now)) classes.new.items) }
     ensures right { OnOk result (All (IsRight pair.entry.now) comparisons.new.items) }
 {
-    let found = rows_on(alloc, pair, spot, asked, comparisons)?;
-    let more = moved_rows(alloc, &found, spot.host)?;
+    let rows = rows_on(alloc, pair, spot, asked, comparisons)?;
+    let mut hosts = Vec::new(alloc);
+    hosts.push(spot.host)?;
     classes.push(HostClass {
         spot,
         listed,
-        rows: found,
+        rows,
+        hosts,
     })?;
-    absorb_all(rows, more, Dimension::Hosts)
+    Ok(())
 }
 
-/// Adds the rows of the comparison at the spot: those of the class of its host, if an earlier host began it; otherwise this
-/// host begins one. Rows that differ in the host alone become one. Returns `AllocError` if allocation fails.
+// Adds the host of the spot to a class on whose hosts the same blocks list the user.
+fn add_moved<'a>(
+    pair: &Pair<'_>,
+    spot: Spot<'a>,
+    listed: &Listed,
+    asked: &[AskClass],
+    index: usize,
+    classes: &mut Vec<HostClass<'a>>,
+) -> Result<(), AllocError>
+    requires spot { body.IsSpot pair.now spot }
+    requires listed { body.AreListedIn pair.now spot listed.now }
+    requires classes { All (of_hosts.IsClass pair.now spot.user spot.person.now (HaveAsk asked.now))
+        classes.old.items }
+    requires within { index < length classes.old.items }
+    requires same { (d : TheHostClass) → of_hosts.AreSameBlocks
+        (get_or classes.old.items index d).listed listed.now }
+    ensures added { OnOk result (of_hosts.AddsHost classes.old.items spot.entry.host
+        classes.new.items) }
+    ensures classes { OnOk result (All (of_hosts.IsClass pair.entry.now spot.entry.user
+        spot.entry.person.now (HaveAsk asked.entry.now)) classes.new.items) }
+{
+    classes[index].add(spot.host)
+}
+
+/// Adds the host of the spot to the class on whose hosts the same blocks list the user; otherwise the policies are compared
+/// there, and the host begins a class. Returns `AllocError` if allocation fails.
 pub(crate) fn add_spot<'a>(
     alloc: Global,
     pair: &Pair<'_>,
@@ -135,7 +150,6 @@ pub(crate) fn add_spot<'a>(
     asked: &[AskClass],
     classes: &mut Vec<HostClass<'a>>,
     comparisons: &mut Vec<Comparison>,
-    rows: &mut Vec<Row>,
 ) -> Result<(), AllocError>
     requires spot { body.IsSpot pair.now spot }
     requires listed { body.AreListedIn pair.now spot listed }
@@ -143,14 +157,36 @@ pub(crate) fn add_spot<'a>(
     requires classes { All (of_hosts.IsClass pair.now spot.user spot.person.now (HaveAsk asked.now))
         classes.old.items }
     requires right { All (IsRight pair.now) comparisons.old.items }
-    ensures added { OnOk result (body.Progress pair.entry.now rows.old.items rows.new.items
-        (body.IsOn spot.entry.user spot.entry.host (HaveAsk asked.entry.now))) }
+    ensures added { OnOk result (of_hosts.AddsHost classes.old.items spot.entry.host
+        classes.new.items) }
     ensures classes { OnOk result (All (of_hosts.IsClass pair.entry.now spot.entry.user
         spot.entry.person.now (HaveAsk asked.entry.now)) classes.new.items) }
     ensures right { OnOk result (All (IsRight pair.entry.now) comparisons.new.items) }
 {
     match class_index(classes, &listed) {
-        Some(index) => add_moved(alloc, pair, spot, &listed, asked, &classes[index], rows),
-        None => add_class(alloc, pair, spot, listed, asked, classes, comparisons, rows),
+        Some(index) => add_moved(pair, spot, &listed, asked, index, classes),
+        None => add_class(alloc, pair, spot, listed, asked, classes, comparisons),
     }
+}
+
+/// Returns the rows of the comparison on the hosts of classes: those that differ in the host alone are one, and the hosts of
+/// each are in order. Returns `AllocError` if allocation fails.
+pub(crate) fn rows_of(
+    alloc: Global,
+    pair: &Pair<'_>,
+    user: usize,
+    person: &Person,
+    asked: &[AskClass],
+    classes: &[HostClass<'_>],
+) -> Result<Vec<Row>, AllocError>
+    requires { All (of_hosts.IsClass pair.now user person.now (HaveAsk asked.now)) classes.now }
+    ensures { IfOk result (λ rows. body.Progress pair.now [] rows.items
+        (of_hosts.IsOnClasses user classes.now (HaveAsk asked.now))) }
+{
+    let mut rows = Vec::new(alloc);
+    for class in classes {
+        let more = moved_rows(alloc, &class.rows, class.hosts.as_slice())?;
+        absorb_all(&mut rows, more, Dimension::Hosts)?;
+    }
+    ordered(alloc, rows)
 }

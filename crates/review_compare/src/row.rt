@@ -237,7 +237,7 @@ pub(crate) fn absorb_all(
     Ok(())
 }
 
-// Returns the row with its targets in order.
+// Returns the row with its hosts and its targets in order.
 fn ordered_row(row: Row) -> Row
     ensures { body.IsOrdered row result }
 {
@@ -248,19 +248,21 @@ fn ordered_row(row: Row) -> Row
         groups,
         found,
     } = row;
+    let mut hosts = hosts.into_vec();
+    hosts.sort_unstable();
     let mut targets = targets.into_vec();
     targets.sort_unstable();
     Row {
         users,
-        hosts,
+        hosts: Seq::from_vec(hosts),
         targets: Seq::from_vec(targets),
         groups,
         found,
     }
 }
 
-// Returns the rows, the targets of each in order.
-fn ordered(alloc: Global, rows: Vec<Row>) -> Result<Vec<Row>, AllocError>
+/// Returns the rows, the hosts and the targets of each in order. Returns `AllocError` if allocation fails.
+pub(crate) fn ordered(alloc: Global, rows: Vec<Row>) -> Result<Vec<Row>, AllocError>
     ensures { IfOk result (λ ordered. body.AreOrdered rows.items ordered.items) }
 {
     let mut ordered = Vec::new(alloc);
@@ -281,8 +283,8 @@ fn grouped(alloc: Global, rows: Vec<Row>) -> Result<Vec<Row>, AllocError>
     Ok(grouped)
 }
 
-/// Returns the rows, the targets of each in order, and those that differ in the group alone as one. Returns `AllocError` if
-/// allocation fails.
+/// Returns the rows, the hosts and the targets of each in order, and those that differ in the group alone as one. Returns
+/// `AllocError` if allocation fails.
 pub(crate) fn merged(alloc: Global, rows: Vec<Row>) -> Result<Vec<Row>, AllocError>
     ensures { IfOk result (λ merged. body.AreMerged rows.items merged.items) }
 {

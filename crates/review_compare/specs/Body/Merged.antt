@@ -57,15 +57,15 @@ pub record AddsFound (old : List Row) (user host : ℕ) (asked : Ask → Type 0)
   pub only : (c : Cell) (f : Compared) → Finds new c f →
       Finds old c f ⊎ ((c.user ≡ user) × (c.host ≡ host) × asked c.ask × IsCopy found f)
 
--- the row with its targets in another order
+-- the row with its hosts and its targets in another order
 pub record IsOrdered (r s : Row) : Type 0 where
   pub users : s.users ≡ r.users
-  pub hosts : s.hosts ≡ r.hosts
+  pub hosts : IsPermutation r.hosts s.hosts
   pub targets : IsPermutation r.targets s.targets
   pub groups : s.groups ≡ r.groups
   pub found : s.found ≡ r.found
 
--- each of the rows with its targets in another order
+-- each of the rows with its hosts and its targets in another order
 abbrev pub AreOrdered : List Row → List Row → Type 0
 AreOrdered [] [] = Unit {0}
 AreOrdered (r ∷ rows) (s ∷ ordered) = IsOrdered r s × AreOrdered rows ordered
@@ -88,7 +88,7 @@ pub record AreGrouped (rows new : List Row) : Type 0 where
   pub absorbed : AbsorbsAll [] rows new
   pub of_spot : (user host : ℕ) → All (IsOfSpot user host) rows → All (IsOfSpot user host) new
 
--- the rows with their targets in another order, and then some of them as one
+-- the rows with their hosts and targets in another order, and then some of them as one
 pub record AreMerged (rows new : List Row) : Type 0 where
   pub ordered : List Row
   pub are_ordered : AreOrdered rows ordered

@@ -5,7 +5,6 @@ use Rattle.review_compare.specs.declared.ask_class.AskClass.{AskClass}
 use Rattle.review_compare.specs.declared.cell.Ask.{Ask}
 use Rattle.review_compare.specs.declared.row.Row.{Row}
 use Rattle.review_compare.specs.Body.AskClasses.{HaveAsk}
-use Rattle.review_compare.specs.Body.Progress.{AreLeft}
 use Rattle.review_compare.proofs.DifferenceLemmas.{asks-left, each-asked}
 use Rattle.review_compare.proofs.differences.rows_beside.Goals as goal
 

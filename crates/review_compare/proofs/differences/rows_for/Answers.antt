@@ -1,4 +1,4 @@
-use Rattle.std.proofs.Common.{◌∙◌, [], List, None, ap, option_copied, subst, sym}
+use Rattle.std.proofs.Common.{◌∙◌, [], List, ap, option_copied, subst, sym}
 use Rattle.std.specs.Prelude.{slice_get}
 use Rattle.sudo_match.specs.declared.people.Machine.{Machine}
 use Rattle.review_compare.specs.declared.row.Row.{Row}

@@ -1,21 +1,23 @@
-use Rattle.std.proofs.Common.{arith, option_copied, length, ap}
+use Rattle.std.proofs.Common.{[], Global, List, Vec, option_copied, subst}
+use Rattle.std.proofs.lemmas.Result.{IfOk-weaker}
+use Rattle.review_compare.specs.declared.host_class.HostClass.{HostClass}
+use Rattle.review_compare.specs.declared.row.Row.{Row}
 use Rattle.review_compare.specs.Body.AskClasses.{HaveAsk}
-use Rattle.review_compare.proofs.DifferenceLemmas.{host-more, hosts-all}
+use Rattle.review_compare.specs.Body.Classes.{IsOnClasses}
+use Rattle.review_compare.specs.Body.Progress.{Progress}
+use Rattle.review_compare.proofs.ClassLemmas.{classes-done}
 use Rattle.review_compare.proofs.differences.rows_for_asked.Goals as goal
-
-pub loop-host-preserved : goal.loop-host-preserved
-loop-host-preserved c = (
-  host-more c.args.pair.now c.loop-host.rows.items c.add_host.new.rows.items c.args.user c.loop-host.host (option_copied c.args.scope)
-      (HaveAsk c.args.asked.now) c.loop-host.invariant.0 c.in_ok-add_host.ensures.added,
-  c.in_ok-add_host.ensures.classes,
-  c.in_ok-add_host.ensures.right,
-)
 
 pub returns : goal.returns
 returns c =
-    let long = ap length c.machines-machines.ensures in
+    let p = c.args.pair.now in
+    let asked = HaveAsk c.args.asked.now in
+    let ks = c.in_ok-classes.classes.items in
     record {
-      all = hosts-all c.args.pair.now c.loop-host.rows.items (option_copied c.args.scope) c.args.user c.loop-host.host
-          (HaveAsk c.args.asked.now) (omega (arith, long, c.loop-host-test.false)) c.loop-host.invariant.0;
-      right = c.loop-host.invariant.2;
+      all = IfOk-weaker c.rows_of.result _ _
+          (λ (rows : Vec Row Global) made.
+          classes-done p rows.items ks c.args.user (option_copied c.args.scope) asked c.in_ok-classes.ensures.all
+          (subst (λ (js : List HostClass). Progress p [] rows.items (IsOnClasses c.args.user js asked)) c.deref.ensures.value made))
+          c.rows_of.ensures;
+      right = IfOk-weaker c.rows_of.result _ _ (λ (rows : Vec Row Global) made. c.in_ok-classes.ensures.right) c.rows_of.ensures;
     }

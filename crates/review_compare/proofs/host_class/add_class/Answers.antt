@@ -1,41 +1,27 @@
-use Rattle.sudo_base.proofs.Options.{on_ok}
-use Rattle.std.proofs.Common.{All, List, refl, subst, sym}
+use Rattle.std.proofs.Common.{◌∙◌, ◌++◌, ◌∷◌, [], ℕ, All, List, ap, subst, sym}
 use Rattle.std.proofs.lemmas.List.Elements.{All-push}
 use Rattle.review_compare.specs.declared.host_class.HostClass.{HostClass}
-use Rattle.review_compare.specs.declared.row.Row.{Row}
 use Rattle.review_compare.specs.Body.AskClasses.{HaveAsk}
-use Rattle.review_compare.specs.Body.Classes.{AreMoved, IsClass}
-use Rattle.review_compare.specs.Body.Progress.{IsOn}
-use Rattle.review_compare.proofs.ClassLemmas.{moved-on, nothing-moved}
-use Rattle.review_compare.proofs.DifferenceLemmas.{all-added}
+use Rattle.review_compare.specs.Body.Classes.{AddsHost, IsClass}
+use Rattle.review_compare.proofs.ClassLemmas.{adds-class, first-class}
 use Rattle.review_compare.proofs.host_class.add_class.Goals as goal
 
-pub returns : goal.returns
-returns c =
+pub returns-clause-added : goal.returns-clause-added
+returns-clause-added c =
+    let s = c.args.spot in
+    let hosts = c.in_ok-push.ensures.items ∙ ap (λ (hs : List ℕ). hs ++ s.host ∷ []) c.new-hosts.ensures.items in
+    let first : HostClass = record { spot = s; listed = c.args.listed; rows = c.in_ok-rows.rows; hosts = c.push.new.self } in
+    subst (λ (ks : List HostClass). AddsHost c.args.classes.now.items s.host ks) (sym c.in_ok-push-2.ensures.items)
+    (adds-class c.args.classes.now.items first s.host hosts)
+
+pub returns-clause-classes : goal.returns-clause-classes
+returns-clause-classes c =
     let p = c.args.pair.now in
     let s = c.args.spot in
     let asked = HaveAsk c.args.asked.now in
-    let rows = c.in_ok-found.found.items in
-    let more = c.in_ok-more.more.items in
-    let own = c.in_ok-found.ensures in
-    let are = subst (λ (rs : List Row). AreMoved s.host rs more) c.deref.ensures.value c.in_ok-more.ensures in
-    let found = moved-on p s s asked rows more c.requires.spot c.requires.spot refl (nothing-moved p s) own.all own.of_spot are in
-    let first : HostClass = record { spot = s; listed = c.args.listed; rows = c.in_ok-found.found } in
-    let class : IsClass p s.user s.person.now asked first = record {
-      spot = c.requires.spot;
-      own = refl;
-      person = refl;
-      listed = c.requires.listed;
-      all = own.all;
-      of_spot = own.of_spot;
-    } in
-    record {
-      added = on_ok c.absorb_all.result
-          (all-added p c.args.rows.now.items more c.absorb_all.new.rows.items (IsOn s.user s.host asked) found)
-          c.absorb_all.ensures;
-      classes = on_ok c.absorb_all.result
-          (λ x. subst (λ (classes : List HostClass). All (IsClass p s.user s.person.now asked) classes) (sym c.in_ok-push.ensures.items)
-          (All-push (IsClass p s.user s.person.now asked) c.args.classes.now.items first c.requires.classes class))
-          c.absorb_all.ensures;
-      right = on_ok c.absorb_all.result (λ x. c.in_ok-found.ensures.right) c.absorb_all.ensures;
-    }
+    let own = c.in_ok-rows.ensures in
+    let hosts = c.in_ok-push.ensures.items ∙ ap (λ (hs : List ℕ). hs ++ s.host ∷ []) c.new-hosts.ensures.items in
+    let first : HostClass = record { spot = s; listed = c.args.listed; rows = c.in_ok-rows.rows; hosts = c.push.new.self } in
+    subst (λ (ks : List HostClass). All (IsClass p s.user s.person.now asked) ks) (sym c.in_ok-push-2.ensures.items)
+    (All-push (IsClass p s.user s.person.now asked) c.args.classes.now.items first c.requires.classes
+    (first-class p s c.args.listed asked c.in_ok-rows.rows c.push.new.self c.requires.spot c.requires.listed own.all own.of_spot hosts))

@@ -1,28 +1,31 @@
+use Rattle.std.proofs.Common.{subst, sym}
+use Rattle.std.proofs.lemmas.List.Elements.{All-get_or, All-set}
 use Rattle.sudo_base.proofs.Options.{on_ok}
-use Rattle.std.proofs.Common.{ℕ, [], All, List, subst, sym}
-use Rattle.review_compare.specs.declared.row.Row.{Row}
+use Rattle.review_compare.specs.declared.host_class.HostClass.{HostClass}
 use Rattle.review_compare.specs.Body.AskClasses.{HaveAsk}
-use Rattle.review_compare.specs.Body.Classes.{AreMoved}
-use Rattle.review_compare.specs.Body.Merged.{IsOfSpot}
-use Rattle.review_compare.specs.Body.Progress.{IsOn, Progress}
-use Rattle.review_compare.proofs.ClassLemmas.{moved-on, same-rows}
-use Rattle.review_compare.proofs.DifferenceLemmas.{all-added}
+use Rattle.review_compare.specs.Body.Classes.{AreSameBlocks, IsClass}
+use Rattle.review_compare.proofs.ClassLemmas.{class-with, have-set}
 use Rattle.review_compare.proofs.host_class.add_moved.Goals as goal
 
-pub returns : goal.returns
-returns c =
+pub returns-clause-added : goal.returns-clause-added
+returns-clause-added c =
+    on_ok c.add.result
+    (have-set c.args.classes.now.items c.args.index c.index_mut.result.now c.add.new.self c.args.spot.host c.requires.within
+    (sym c.index_mut.ensures.value))
+    c.add.ensures
+
+pub returns-clause-classes : goal.returns-clause-classes
+returns-clause-classes c =
     let p = c.args.pair.now in
-    let k = c.args.class.now in
     let s = c.args.spot in
     let asked = HaveAsk c.args.asked.now in
-    let moved = c.in_ok-moved.moved.items in
-    let class = c.requires.class in
-    let own = sym class.own in
-    let same = same-rows p s k.spot c.args.listed.now k.listed (sym class.person) c.requires.listed class.listed c.requires.same in
-    let all = subst (λ (u : ℕ). Progress p [] k.rows.items (IsOn u k.spot.host asked)) own class.all in
-    let of_spot = subst (λ (u : ℕ). All (IsOfSpot u k.spot.host) k.rows.items) own class.of_spot in
-    let are = subst (λ (rows : List Row). AreMoved s.host rows moved) c.deref.ensures.value c.in_ok-moved.ensures in
-    let found = moved-on p s k.spot asked k.rows.items moved c.requires.spot class.spot own same all of_spot are in
-    on_ok c.absorb_all.result
-    (all-added p c.args.rows.now.items moved c.absorb_all.new.rows.items (IsOn s.user s.host asked) found)
-    c.absorb_all.ensures
+    let ks = c.args.classes.now.items in
+    let k = c.index_mut.result.now in
+    let own = sym c.index_mut.ensures.value in
+    let same = subst (λ (j : HostClass). AreSameBlocks j.listed c.args.listed.now) own (c.requires.same k) in
+    let class = subst (IsClass p s.user s.person.now asked) own
+    (All-get_or (IsClass p s.user s.person.now asked) ks c.args.index k c.requires.within c.requires.classes) in
+    on_ok c.add.result
+    (λ is. All-set (IsClass p s.user s.person.now asked) ks c.args.index c.add.new.self
+    (class-with p s c.args.listed.now asked k c.add.new.self c.requires.spot c.requires.listed same class is) c.requires.classes)
+    c.add.ensures

@@ -3,4 +3,4 @@ use Rattle.review_compare.specs.Body.Classes.{AreMoved}
 use Rattle.review_compare.proofs.host_class.moved_rows.Given as goal
 
 abbrev pub invariant-loop-row : goal.invariant-loop-row
-invariant-loop-row l = AreMoved l.fn.host (take l.row-index l.rows) l.moved.items
+invariant-loop-row l = AreMoved l.hosts (take l.row-index l.rows) l.moved.items

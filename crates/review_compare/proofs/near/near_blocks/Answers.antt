@@ -4,7 +4,6 @@ use Rattle.std.specs.List.{range_with_len}
 use Rattle.std.proofs.lemmas.List.Elements.{filter-append}
 use Rattle.review_roots.proofs.ListSteps.{range-more}
 use Rattle.review_compare.specs.declared.ruling.Ruled.{Ruled}
-use Rattle.review_compare.specs.Cells.{Decider}
 use Rattle.review_compare.specs.Body.Chosen.{deciders_at}
 use Rattle.review_compare.specs.Body.Near.{has_near}
 use Rattle.review_compare.specs.Body.Shown.{all_shown}

@@ -1,4 +1,4 @@
-use Rattle.std.proofs.Common.{◌≡◌, ◌<◌, ◌+◌, ◌++◌, ◌∙◌, ◌∷◌, [], cond}
+use Rattle.std.proofs.Common.{◌+◌, ◌++◌, ◌∙◌, ◌∷◌, [], cond}
 use Rattle.std.proofs.Common.{ℕ, Bool, List, ap, arith, get_or, length, length-append, option_copied}
 use Rattle.std.proofs.Common.{subst, sym, take}
 use Rattle.std.specs.Prelude.{filter}
