@@ -71,17 +71,21 @@ class Plain(NamedTuple):
 
 
 class Sampled(NamedTuple):
-    """What was found of policies with a difference: the classes that explain it, and what no caution explains."""
+    """What was found of policies with a difference: the classes that explain it, and what no caution explains.
+
+    `together` counts the policies whose difference goes with the constructs of several classes alone, by how many they are."""
 
     policies: int = 0
     unread: int = 0
     explained: Counter[str] = Counter()
+    together: Counter[int] = Counter()
     left: tuple[tuple[str, Difference], ...] = ()
 
     def plus(self, more: "Sampled") -> "Sampled":
         """Returns what both found."""
-        explained, left = self.explained + more.explained, self.left + more.left
-        return Sampled(self.policies + more.policies, self.unread + more.unread, explained, left)
+        explained, together = self.explained + more.explained, self.together + more.together
+        policies, unread = self.policies + more.policies, self.unread + more.unread
+        return Sampled(policies, unread, explained, together, self.left + more.left)
 
 
 class Single(NamedTuple):
@@ -176,11 +180,14 @@ class Measure:
         named = self.cautions(small)
         explained = [name for name in named if self._goes(small, name)]
         if explained:
-            return Sampled(1, 0, Counter(explained))
+            return Sampled(1, explained=Counter(explained))
+        several = self._several(small, sorted(named))
+        if several:
+            return Sampled(1, together=Counter([several]))
         if not self._is_read(small):
-            return Sampled(1, 1)
+            return Sampled(1, unread=1)
         left = Difference(seed, small, self.asked(small))
-        return Sampled(1, 0, Counter(), ((", ".join(sorted(named)), left),))
+        return Sampled(1, left=((", ".join(sorted(named)), left),))
 
     def _small(self, case: Case, both: Both) -> Case:
         """Returns a case with few entries and members that differs in the same way."""
@@ -200,6 +207,19 @@ class Measure:
             if REFUSED not in both and not both.differ() and name not in self.cautions(changed):
                 return True
         return False
+
+    def _several(self, case: Case, named: Sequence[str]) -> int:
+        """Returns how many classes the difference of a case goes with: two or three, or 0 if it goes with no so few."""
+        found = (count for count in (2, 3) if any(self._go(case, names) for names in itertools.permutations(named, count)))
+        return next(found, 0)
+
+    def _go(self, case: Case, names: Sequence[str]) -> bool:
+        """Returns whether the difference of a case goes with the constructs of these classes, taken out one after the other."""
+        name, *rest = names
+        if not rest:
+            return self._goes(case, name)
+        changes = (changed for changed in WAYS[name](case) if changed != case)
+        return any(self._go(changed, rest) for changed in changes if name not in self.cautions(changed))
 
     def singles(self, draw: Draw, enough: frozenset[str]) -> list[tuple[Caution, Case]]:
         """Returns policies with one caution, for each of those of a drawn one whose class has not enough."""

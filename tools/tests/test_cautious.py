@@ -5,6 +5,7 @@ import os
 import re
 import tomllib
 import unittest
+from collections import Counter
 
 from support import DEV, PROGRAM, REVIEW, TESTS, Case
 from test_differential import PEER
@@ -172,7 +173,8 @@ class Words(Case):
         expected = (
             r"seed 1\n(.*\n)*\d+ policies, \d+ \(\d+\.\d %\) without cautions, \d+ of them not read by sudo\n(.*\n)*"
             r"\d+ verdicts under policies without cautions, 0 differ\n(.*\n)*"
-            r"\d+ policies with a difference, \d+ explained by a caution, \d+ by what sudo does not read, 0 by none\n"
+            r"\d+ policies with a difference, \d+ explained by a caution, \d+ by two together, \d+ by three,"
+            r" \d+ by what sudo does not read, 0 by none\n"
         )
         self.assertRegex(out, f"^{expected}")
         self.assertGreaterEqual(len(re.findall("policies with one caution of", out)), len(NAMES))
@@ -204,6 +206,10 @@ class Measured(Case):
         ):
             with self.subTest(name=name):
                 self.assertEqual(list(self.explained(text, request).explained), [name])
+
+    def test_two_cautions_explain_together(self) -> None:
+        found = self.explained(f"alice ALL = (bob:) {LS}\r\n", ASKED._replace(runas_user="bob"))
+        self.assertEqual((found.together, found.unread, found.explained), (Counter([2]), 0, Counter()))
 
     def test_no_caution_explains(self) -> None:
         found = self.explained("alice ALL = ALL\nbob ALL = (Root) /bin/ls\n", ASKED._replace(runas_group="adm"))

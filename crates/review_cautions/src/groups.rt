@@ -1,10 +1,11 @@
 //! Lists of users to run as with a colon behind which no group stands. Lines are given as the reader joins them: without a
 //! carriage return at their ends and blanks at their fronts.
-ghost use Rattle.std.specs.Prelude.{◌≡◌, ◌≤◌, ◌<◌, ◌+◌, length, drop, false};
+ghost use Rattle.std.specs.Prelude.{◌≡◌, ◌≤◌, ◌<◌, ◌+◌, ◌==◌, ◌||◌, length, drop, false};
+ghost use Rattle.std.specs.List.{list_any};
 ghost use Rattle.review_cautions.specs.EmptyGroups as spec;
 ghost use Rattle.review_cautions.specs.Body.Signs as signs;
 
-use crate::bytes::{is_blank, is_digit, is_text, peek, without_indent};
+use crate::bytes::{has_byte, is_blank, is_digit, is_text, peek, without_indent};
 use memchr::memchr;
 
 // Whether a `)` comes first in bytes, behind blanks and the join to the next line, if they stand there.
@@ -16,8 +17,8 @@ fn closes(bytes: &[u8], next: &[u8]) -> bool
         || (is_text(rest, b"\\") && (peek(next, 0) == b')' || is_text(next, b"\\")))
 }
 
-/// Whether a list of users to run as has a colon and no group behind it, in a line or at its join to the next one.
-pub(crate) fn has_empty_group(line: &[u8], next: &[u8]) -> bool
+// Whether a list of users to run as has a colon and no group behind it, in a line or at its join to the next one: byte by byte.
+fn finds_empty_group(line: &[u8], next: &[u8]) -> bool
     ensures { result ≡ spec.has_empty_group false false false line.now next.now }
 {
     let mut escaped = false;
@@ -77,4 +78,21 @@ pub(crate) fn has_late_close(line: &[u8]) -> bool
         rest = behind(rest, at);
     }
     false
+}
+
+// Whether such a list may stand in a line.
+fn may_have_empty_group(line: &[u8]) -> bool
+    ensures { result ≡ (signs.has_late_close false line.now || list_any (λ b. b == 92) line.now) }
+{
+    has_late_close(line) || has_byte(b'\\', line)
+}
+
+/// Whether a list of users to run as has a colon and no group behind it, in a line or at its join to the next one.
+pub(crate) fn has_empty_group(line: &[u8], next: &[u8]) -> bool
+    ensures { result ≡ spec.has_empty_group false false false line.now next.now }
+{
+    if !may_have_empty_group(line) {
+        return false;
+    }
+    finds_empty_group(line, next)
 }

@@ -1,6 +1,6 @@
 use Rattle.std.proofs.Common.{◌≡◌, length, false}
 use Rattle.review_cautions.specs.EmptyGroups.{has_empty_group}
-use Rattle.review_cautions.proofs.groups.has_empty_group.Given as goal
+use Rattle.review_cautions.proofs.groups.finds_empty_group.Given as goal
 
 abbrev pub invariant-loop-rest : goal.invariant-loop-rest
 invariant-loop-rest l =
