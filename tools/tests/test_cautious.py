@@ -208,7 +208,7 @@ class Measured(Case):
                 self.assertEqual(list(self.explained(text, request).explained), [name])
 
     def test_two_cautions_explain_together(self) -> None:
-        found = self.explained(f"alice ALL = (bob:) {LS}\r\n", ASKED._replace(runas_user="bob"))
+        found = self.explained(f"Cmnd_Alias ADM = ALL\nalice ALL = ADM, {world.TOP}/\\*b/c\\,\n", ASKED)
         self.assertEqual((found.together, found.unread, found.explained), (Counter([2]), 0, Counter()))
 
     def test_no_caution_explains(self) -> None:
