@@ -154,8 +154,18 @@ pub(crate) fn rare_candidate(alloc: Global) -> Result<Candidate, AllocError> {
     })
 }
 
-// Whether the text is among the others.
-fn has_text(texts: &[Vec<u8>], text: &[u8]) -> bool {
+/// Whether the command with its arguments is among the others.
+pub(crate) fn has_candidate(candidates: &[Candidate], candidate: &Candidate) -> bool {
+    for other in candidates {
+        if other.command == candidate.command && other.arguments == candidate.arguments {
+            return true;
+        }
+    }
+    false
+}
+
+/// Whether the text is among the others.
+pub(crate) fn has_text(texts: &[Vec<u8>], text: &[u8]) -> bool {
     for other in texts {
         if other.as_slice() == text {
             return true;

@@ -5,7 +5,8 @@ ghost use Rattle.review_compare.specs.Body.Shown.{IsShownWitness};
 
 use crate::answer::Answer;
 use crate::candidates::{
-    Candidate, FILLS, can_be_asked, given_texts, own_candidate, own_path, rare_candidate,
+    Candidate, FILLS, can_be_asked, given_texts, has_candidate, has_text, own_candidate, own_path,
+    rare_candidate,
 };
 use crate::changed::Changed;
 use crate::fitting::{Fitting, may_fit};
@@ -13,6 +14,13 @@ use crate::ruling::Ruled;
 use crate::shape::Shape;
 use crate::witness::Witness;
 use std::alloc::{AllocError, Global};
+
+// What was tried: commands with arguments that the same row fits, and commands with arguments of all rows.
+#[derive(Drop)]
+struct Tried {
+    own: Vec<Candidate>,
+    paths: Vec<Vec<u8>>,
+}
 
 // Whether one of the witnesses has this answer.
 fn has_answer(found: &[Witness], answer: Answer) -> bool {
@@ -56,11 +64,32 @@ fn try_text(
     }
 }
 
-// Tries commands with arguments that the command of a policy fits.
+// Does the same, unless the command was tried before.
+fn try_other_text(
+    alloc: Global,
+    changed: &Changed<'_, '_>,
+    text: Candidate,
+    tried: &mut Vec<Candidate>,
+    found: &mut Vec<Witness>,
+) -> Result<(), AllocError>
+    ensures { OnOk result (All (IsShownWitness changed.now.all_old.now
+        changed.now.all_new.now) found.old.items → All (IsShownWitness
+        changed.now.all_old.now changed.now.all_new.now) found.new.items) }
+{
+    if has_candidate(tried, &text) {
+        return Ok(());
+    }
+    try_text(alloc, changed, &text, found)?;
+    tried.push(text)?;
+    Ok(())
+}
+
+// Tries commands with arguments that the command of a policy fits, but for those that were tried before.
 fn try_own(
     alloc: Global,
     changed: &Changed<'_, '_>,
     shape: &Shape,
+    tried: &mut Vec<Candidate>,
     found: &mut Vec<Witness>,
 ) -> Result<(), AllocError>
     ensures { OnOk result (All (IsShownWitness changed.now.all_old.now
@@ -69,7 +98,7 @@ fn try_own(
 {
     for fill in &FILLS {
         let text = own_candidate(alloc, shape, fill)?;
-        try_text(alloc, changed, &text, found)?;
+        try_other_text(alloc, changed, text, tried, found)?;
     }
     Ok(())
 }
@@ -126,11 +155,33 @@ fn try_path(
     Ok(())
 }
 
-// Tries commands that the rows fit, each with arguments that the same row fits.
+// Does the same, unless the command was tried before.
+fn try_other_path(
+    alloc: Global,
+    changed: &Changed<'_, '_>,
+    command: Vec<u8>,
+    given: &[Vec<u8>],
+    tried: &mut Vec<Vec<u8>>,
+    found: &mut Vec<Witness>,
+) -> Result<(), AllocError>
+    ensures { OnOk result (All (IsShownWitness changed.now.all_old.now
+        changed.now.all_new.now) found.old.items → All (IsShownWitness
+        changed.now.all_old.now changed.now.all_new.now) found.new.items) }
+{
+    if has_text(tried, &command) {
+        return Ok(());
+    }
+    try_path(alloc, changed, &command, given, found)?;
+    tried.push(command)?;
+    Ok(())
+}
+
+// Tries commands that the rows fit, each with arguments that the same row fits, but for those that were tried before.
 fn try_own_arguments(
     alloc: Global,
     changed: &Changed<'_, '_>,
     rows: &[Ruled<'_>],
+    tried: &mut Vec<Candidate>,
     found: &mut Vec<Witness>,
 ) -> Result<(), AllocError>
     ensures { OnOk result (All (IsShownWitness changed.now.all_old.now
@@ -138,17 +189,18 @@ fn try_own_arguments(
         changed.now.all_old.now changed.now.all_new.now) found.new.items) }
 {
     for row in rows {
-        try_own(alloc, changed, row.shape, found)?;
+        try_own(alloc, changed, row.shape, tried, found)?;
     }
     Ok(())
 }
 
-// Tries commands that the rows fit, each with all these arguments.
+// Tries commands that the rows fit, each with all these arguments, but for those that were tried before.
 fn try_given_arguments(
     alloc: Global,
     changed: &Changed<'_, '_>,
     rows: &[Ruled<'_>],
     given: &[Vec<u8>],
+    tried: &mut Vec<Vec<u8>>,
     found: &mut Vec<Witness>,
 ) -> Result<(), AllocError>
     ensures { OnOk result (All (IsShownWitness changed.now.all_old.now
@@ -157,7 +209,7 @@ fn try_given_arguments(
 {
     for row in rows {
         let command = own_path(alloc, row.shape)?;
-        try_path(alloc, changed, &command, given, found)?;
+        try_other_path(alloc, changed, command, given, tried, found)?;
     }
     Ok(())
 }
@@ -168,14 +220,15 @@ fn try_rows(
     changed: &Changed<'_, '_>,
     rows: &[Ruled<'_>],
     given: &[Vec<u8>],
+    tried: &mut Tried,
     found: &mut Vec<Witness>,
 ) -> Result<(), AllocError>
     ensures { OnOk result (All (IsShownWitness changed.now.all_old.now
         changed.now.all_new.now) found.old.items → All (IsShownWitness
         changed.now.all_old.now changed.now.all_new.now) found.new.items) }
 {
-    try_own_arguments(alloc, changed, rows, found)?;
-    try_given_arguments(alloc, changed, rows, given, found)
+    try_own_arguments(alloc, changed, rows, &mut tried.own, found)?;
+    try_given_arguments(alloc, changed, rows, given, &mut tried.paths, found)
 }
 
 /// Returns commands that are answered otherwise: at most one for each answer. Those that rows of the new policy fit are tried
@@ -189,9 +242,13 @@ pub(crate) fn witnesses(
         changed.now.all_new.now) found.items) }
 {
     let given = given_texts(alloc, &changed.old, &changed.new)?;
+    let mut tried = Tried {
+        own: Vec::new(alloc),
+        paths: Vec::new(alloc),
+    };
     let mut found = Vec::new(alloc);
-    try_rows(alloc, changed, &changed.new, &given, &mut found)?;
-    try_rows(alloc, changed, &changed.old, &given, &mut found)?;
+    try_rows(alloc, changed, &changed.new, &given, &mut tried, &mut found)?;
+    try_rows(alloc, changed, &changed.old, &given, &mut tried, &mut found)?;
     let rare = rare_candidate(alloc)?;
     try_text(alloc, changed, &rare, &mut found)?;
     Ok(found)
