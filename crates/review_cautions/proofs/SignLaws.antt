@@ -15,7 +15,8 @@ use Rattle.review_cautions.specs.declared.class.CautionClass.TheVariants.{Unknow
 use Rattle.review_cautions.specs.declared.class.CautionClass.TheVariants.{Bracket, Setenv, GroupForm, Reserved, Arguments}
 use Rattle.review_cautions.specs.PhysicalLines.{stripped, last_byte, may_have_command, ends_in_word, begins_in_word, has_slash}
 use Rattle.review_cautions.specs.PhysicalLines.{ends_in_escaped_blanks, ends_in_mark, has_escape_of, has_path_escape, end_blanks}
-use Rattle.review_cautions.specs.PhysicalLines.{is_indented_include, is_remark, is_of_comments}
+use Rattle.review_cautions.specs.EmptyGroups.{has_empty_group}
+use Rattle.review_cautions.specs.PhysicalLines.{is_defaults, is_indented_include, is_remark, is_of_comments}
 use Rattle.review_cautions.specs.PhysicalLines.{line_holds, is_marked, has_other_comment}
 use Rattle.review_cautions.specs.Body.Signs.{is_sign, has_late_close, may_hold}
 use Rattle.review_cautions.proofs.GroupLaws.{dropped, no_empty_group}
@@ -140,7 +141,8 @@ quiet_line Comment continuing line next h k =
     first_false (has_other_comment false false true (stripped line)) (not (is_include (stripped line)))
     (no_comment false false true (stripped line) (bare_hash line h))
 quiet_line EmptyGroup continuing line next h k =
-    no_empty_group false false false (stripped line) (stripped next) (bare (λ b. b == 92) line (no_backslashes line h)) k
+    first_false (has_empty_group false false false (stripped line) (stripped next)) (not (is_defaults (stripped line)))
+    (no_empty_group false false false (stripped line) (stripped next) (bare (λ b. b == 92) line (no_backslashes line h)) k)
 quiet_line Caret continuing line next h k = refl
 quiet_line Escape continuing line next h k = refl
 quiet_line Case continuing line next h k = refl

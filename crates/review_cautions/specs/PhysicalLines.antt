@@ -183,6 +183,12 @@ has_other_comment escaped quoted admitted (b ∷ bs) =
     else if (b == 35) && not quoted && not (admitted && begins_with_digit bs) then begins_no_comment bs
     else has_other_comment false quoted (admits_id b || (admitted && is_blank b)) bs
 
+-- the line begins as a Defaults line, bound or not
+abbrev pub is_defaults : List ℕ → Bool
+is_defaults line = starts_with nat_eq line (codes "Defaults")
+    && (is_blank (slice_index line 8) || (slice_index line 8 == 64) || (slice_index line 8 == 58) || (slice_index line 8 == 33)
+    || (slice_index line 8 == 62))
+
 -- the line has the construct of the class; `continuing`: it continues another; `next`: the line after it
 abbrev pub line_holds : CautionClass → Bool → List ℕ → List ℕ → Bool
 line_holds Return continuing line next = ends_in_return continuing line
@@ -192,7 +198,8 @@ line_holds TornMark continuing line next = tears_mark (stripped line) (stripped 
 line_holds IncludeEscape continuing line next = is_escaped_include continuing (stripped line)
 line_holds IncludeIndent continuing line next = is_indented_include continuing line
 line_holds Comment continuing line next = has_other_comment false false true (stripped line) && not (is_include (stripped line))
-line_holds EmptyGroup continuing line next = has_empty_group false false false (stripped line) (stripped next)
+line_holds EmptyGroup continuing line next =
+    has_empty_group false false false (stripped line) (stripped next) && not (is_defaults (stripped line))
 line_holds _ continuing line next = false
 
 -- the line is a comment; a continuation line never is

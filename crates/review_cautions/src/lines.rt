@@ -119,6 +119,19 @@ fn is_indented_include(continuing: bool, line: &[u8]) -> bool
     peek(text, 0) == b'#' && is_include(text)
 }
 
+// Whether a line begins as a Defaults line, bound or not.
+fn is_defaults(line: &[u8]) -> bool
+    ensures { result ≡ spec.is_defaults line.now }
+{
+    let behind = peek(line, 8);
+    line.starts_with(b"Defaults")
+        && (is_blank(behind)
+            || behind == b'@'
+            || behind == b':'
+            || behind == b'!'
+            || behind == b'>')
+}
+
 // Returns the first physical line of a text, and an empty one if the text has none.
 fn first_of(text: &[u8]) -> &[u8]
     ensures { result.now ≡ first_line (cut text.now) }
@@ -148,7 +161,10 @@ fn line_holds(class: CautionClass, continuing: bool, line: &[u8], after: &[u8]) 
         CautionClass::IncludeEscape => is_escaped_include(continuing, strip(line)),
         CautionClass::IncludeIndent => is_indented_include(continuing, line),
         CautionClass::Comment => has_other_comment(strip(line)) && !is_include(strip(line)),
-        CautionClass::EmptyGroup => has_empty_group(strip(line), strip(first_of(after))),
+        CautionClass::EmptyGroup => {
+            let line = strip(line);
+            has_empty_group(line, strip(first_of(after))) && !is_defaults(line)
+        }
         _ => false,
     }
 }
