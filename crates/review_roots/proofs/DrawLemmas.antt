@@ -1,8 +1,9 @@
 -- The loops of a search: over the candidates that are left, and over what is found.
-use Rattle.std.proofs.Common.{◌≡◌, ◌<◌, ◌∙◌, ◌+◌, ℕ, Bool, true, false, not, cond, List, [], ◌∷◌, ◌++◌, ap, arith, get_or, length}
+use Rattle.std.proofs.Common.{◌≡◌, ◌<◌, ◌≤◌, ◌∙◌, ◌+◌, ◌⊎◌, ℕ, Bool, true, false, not, cond, List, [], ◌∷◌, ◌++◌, ap, arith, get_or, length}
 use Rattle.std.proofs.Common.{length-append}
-use Rattle.std.proofs.Common.{map, sym, subst, take, Some, append_assoc, append-nil}
+use Rattle.std.proofs.Common.{inl, inr, map, refl, sym, subst, take, Option, Some, None, append_assoc, append-nil}
 use Rattle.std.specs.Prelude.{All, filter, slice_get}
+use Rattle.std.specs.List.{Contains}
 use Rattle.std.proofs.lemmas.List.{length-map, map-append}
 use Rattle.std.proofs.lemmas.List.Elements.{All-filter, filter-append}
 use Rattle.review_roots.specs.declared.candidate.Candidate.{Candidate}
@@ -13,9 +14,11 @@ use Rattle.review_roots.specs.declared.search.Found.{Found}
 use Rattle.review_roots.specs.declared.search.Sought.{Sought}
 use Rattle.review_roots.specs.Body.Candidates.{states_of}
 use Rattle.review_roots.specs.States.{steps_to}
-use Rattle.review_roots.specs.Body.Found.{found_by, IsCandidate, IsDrawn, IsSearch, kept_steps, reaches}
+use Rattle.review_roots.specs.Body.Found.{AreGiven, found_by, IsCandidate, IsDrawn, IsGiven, IsSearch, kept_steps, reaches}
+use Rattle.review_roots.specs.Ways.{step_on}
 use Rattle.review_roots.proofs.ListSteps.{take-more, filter-mapped, map-twice}
-use Rattle.review_roots.proofs.SearchLemmas.{drawn_to, new_found, drawn-search, drawn-more, parted-length}
+use Rattle.review_roots.proofs.SearchLemmas.{drawn_to, drawn-more, drawn-search, from-map, get-append, get-append-cases, new_found}
+use Rattle.review_roots.proofs.SearchLemmas.{parted-length}
 
 -- one item more of a list of references that is filtered
 pub filtered-more :
@@ -60,15 +63,15 @@ one-found f now by left first old new i c within is passes so_far more =
 
 module _ (h : HostSteps) (target : ℕ) (aim : Aim) (cs : List Candidate) where
   pub draw-found :
-      map (found_by aim) (filter (reaches h aim) cs)
-      ≡ map (new_found aim.level aim.index)
+      map (found_by h aim) (filter (reaches h aim) cs)
+      ≡ map (new_found (λ s. step_on h s aim.state) aim.level aim.index)
       (filter (drawn_to (steps_to h.checked.now h.directory.now h.host.now h.groups.now target aim.counted) aim.level aim.state)
       (states_of cs))
   draw-found =
-      sym (ap (map (new_found aim.level aim.index))
+      sym (ap (map (new_found (λ s. step_on h s aim.state) aim.level aim.index))
       (filter-mapped (drawn_to (steps_to h.checked.now h.directory.now h.host.now h.groups.now target aim.counted) aim.level aim.state)
       (λ (c : Candidate). c.state) cs)
-      ∙ map-twice (new_found aim.level aim.index) (λ (c : Candidate). c.state) (filter (reaches h aim) cs))
+      ∙ map-twice (new_found (λ s. step_on h s aim.state) aim.level aim.index) (λ (c : Candidate). c.state) (filter (reaches h aim) cs))
 
   pub draw-kept :
       states_of (filter (λ c. not (reaches h aim c)) cs)
@@ -82,14 +85,15 @@ module _
     (h : HostSteps) (q : Sought) (l : Level) (n : ℕ) (t : Found) (found new : List Found) (cs kept : List Candidate)
     (there : slice_get found n ≡ Some t)
     (finds : new ≡ found
-    ++ map (found_by (record { index = n; state = t.state; level = l; counted = q.counted }))
+    ++ map (found_by h (record { index = n; state = t.state; level = l; counted = q.counted }))
     (filter (reaches h (record { index = n; state = t.state; level = l; counted = q.counted })) cs))
     (keeps : kept ≡ filter (λ c. not (reaches h (record { index = n; state = t.state; level = l; counted = q.counted }) c)) cs)
   where
     abbrev aim : Aim
     aim = record { index = n; state = t.state; level = l; counted = q.counted }
 
-    finds_states : new ≡ found ++ map (new_found l n) (filter (drawn_to (kept_steps h q) l t.state) (states_of cs))
+    finds_states : new ≡ found
+        ++ map (new_found (λ s. step_on h s t.state) l n) (filter (drawn_to (kept_steps h q) l t.state) (states_of cs))
     finds_states = finds ∙ ap (λ (xs : List Found). found ++ xs) (draw-found h q.target aim cs)
 
     keeps_states : states_of kept ≡ filter (λ s. not (drawn_to (kept_steps h q) l t.state s)) (states_of cs)
@@ -99,17 +103,39 @@ module _
     spread-search search =
         subst (λ xs. IsSearch (kept_steps h q) h.least l xs (states_of kept)) (sym finds_states)
         (subst (IsSearch (kept_steps h q) h.least l
-        (found ++ map (new_found l n) (filter (drawn_to (kept_steps h q) l t.state) (states_of cs))))
+        (found ++ map (new_found (λ s. step_on h s t.state) l n) (filter (drawn_to (kept_steps h q) l t.state) (states_of cs))))
         (sym keeps_states)
-        (drawn-search (kept_steps h q) h.least l n t found (states_of cs) search there))
+        (drawn-search (kept_steps h q) (λ s. step_on h s t.state) h.least l n t found (states_of cs) search there))
 
     pub spread-drawn : IsSearch (kept_steps h q) h.least l found (states_of cs) → IsDrawn (kept_steps h q) l n found (states_of cs)
         → IsDrawn (kept_steps h q) l (n + 1) new (states_of kept)
     spread-drawn search drawn =
         subst (λ xs. IsDrawn (kept_steps h q) l (n + 1) xs (states_of kept)) (sym finds_states)
         (subst (IsDrawn (kept_steps h q) l (n + 1)
-        (found ++ map (new_found l n) (filter (drawn_to (kept_steps h q) l t.state) (states_of cs)))) (sym keeps_states)
-        (drawn-more (kept_steps h q) h.least l n t found (states_of cs) search there drawn))
+        (found ++ map (new_found (λ s. step_on h s t.state) l n) (filter (drawn_to (kept_steps h q) l t.state) (states_of cs))))
+        (sym keeps_states)
+        (drawn-more (kept_steps h q) (λ s. step_on h s t.state) h.least l n t found (states_of cs) search there drawn))
+
+    old_given : (e : Found) (o : Option ℕ) → IsGiven h found e o
+        → IsGiven h (found ++ map (found_by h aim) (filter (reaches h aim) cs)) e o
+    old_given e None is = is
+    old_given e (Some next) is =
+        (is.0, (get-append found (map (found_by h aim) (filter (reaches h aim) cs)) next is.0 is.1.0, is.1.1))
+
+    grown_given : AreGiven h found → AreGiven h (found ++ map (found_by h aim) (filter (reaches h aim) cs))
+    grown_given are i e at = go (get-append-cases found (map (found_by h aim) (filter (reaches h aim) cs)) i e at)
+      where
+        go : (slice_get found i ≡ Some e) ⊎ ((length found ≤ i) × Contains (map (found_by h aim) (filter (reaches h aim) cs)) e)
+            → IsGiven h (found ++ map (found_by h aim) (filter (reaches h aim) cs)) e e.next
+        go (inl before) = old_given e e.next (are i e before)
+        go (inr new) =
+            let c = from-map (found_by h aim) (filter (reaches h aim) cs) e new.1 in
+            subst (λ (e : Found). IsGiven h (found ++ map (found_by h aim) (filter (reaches h aim) cs)) e e.next) c.2
+            (t, (get-append found (map (found_by h aim) (filter (reaches h aim) cs)) n t there, refl))
+
+    -- what the first steps give is still known
+    pub spread-given : AreGiven h found → AreGiven h new
+    spread-given are = subst (AreGiven h) (sym finds) (grown_given are)
 
     pub spread-candidates : All (IsCandidate h) cs → All (IsCandidate h) kept
     spread-candidates all = subst (All (IsCandidate h)) (sym keeps) (All-filter (λ c. not (reaches h aim c)) (IsCandidate h) cs all)
@@ -118,10 +144,10 @@ module _
     spread-length =
         let parted = parted-length (reaches h aim) cs in
         let k : length kept ≡ length (filter (λ c. not (reaches h aim c)) cs) = ap length keeps in
-        let f : length new ≡ length found + length (map (found_by aim) (filter (reaches h aim) cs)) =
-        ap length finds ∙ length-append found (map (found_by aim) (filter (reaches h aim) cs)) in
-        let m : length (map (found_by aim) (filter (reaches h aim) cs))
-        ≡ length (filter (reaches h aim) cs) = length-map (filter (reaches h aim) cs) (found_by aim) in
+        let f : length new ≡ length found + length (map (found_by h aim) (filter (reaches h aim) cs)) =
+        ap length finds ∙ length-append found (map (found_by h aim) (filter (reaches h aim) cs)) in
+        let m : length (map (found_by h aim) (filter (reaches h aim) cs))
+        ≡ length (filter (reaches h aim) cs) = length-map (filter (reaches h aim) cs) (found_by h aim) in
         omega (arith, parted, k, f, m)
 
 -- ---- Lists that are filtered as they are gone through

@@ -8,6 +8,7 @@ pub mod GivenLemmas
 pub mod SearchLemmas
 pub mod DrawLemmas
 pub mod EffectLemmas
+pub mod SettledLemmas
 pub mod StartLemmas
 pub mod StartsLemmas
 pub mod WayLemmas

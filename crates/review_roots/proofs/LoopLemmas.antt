@@ -19,7 +19,6 @@ use Rattle.sudo_verdict.specs.RunasForms.{runas_allows}
 use Rattle.review_roots.specs.declared.candidate.Candidate.{Candidate}
 use Rattle.review_roots.specs.declared.block.Sign.{Sign}
 use Rattle.review_roots.specs.declared.given.Given.{Given}
-use Rattle.review_roots.specs.declared.given.AllowingRow.{AllowingRow}
 use Rattle.review_roots.specs.declared.host.HostSteps.{HostSteps}
 use Rattle.review_roots.specs.declared.level.Level.{Level}
 use Rattle.review_roots.specs.declared.way.Password.{Password}
@@ -29,20 +28,25 @@ use Rattle.review_roots.specs.declared.state.State.{State}
 use Rattle.review_roots.specs.Asked.{given_asked, nothing}
 use Rattle.review_roots.specs.Blocks.{Row, is_for, lists, sign_of, with_rows}
 use Rattle.review_roots.specs.Body.Candidates.{part_at}
-use Rattle.review_roots.specs.Body.Found.{PointBack, AreFound, IsCandidate, IsFound, found_states}
+use Rattle.review_roots.specs.Body.Found.{PointBack, AreFound, AreGiven, IsCandidate, IsFound, found_states}
 use Rattle.review_roots.specs.Sought.{steps_of}
 use Rattle.review_roots.specs.Chains.{Steps}
 use Rattle.review_roots.specs.Ranks.{is_at_least}
-use Rattle.review_roots.specs.Ways.{IsChain, first_row, password_along}
+use Rattle.review_roots.specs.Ways.{IsChain, step_password, worse}
 use Rattle.review_roots.proofs.GivenLemmas.{blocks_give}
 use Rattle.review_roots.proofs.IndexLemmas.{answer-at, parts-are}
 use Rattle.review_roots.proofs.SearchLemmas.{from-map, to-map}
-use Rattle.review_roots.proofs.WayLemmas.{LeadsSoFar, LeadsWhole, leads-more, leads-all}
+use Rattle.review_roots.specs.Body.Passing.{HasPassword, HasRow, LeadsWhole}
+use Rattle.review_roots.proofs.WayLemmas.{AsksSoFar, LeadsSoFar, RowSoFar, asks-all, asks-more, leads-more, leads-all, row-all, row-more}
 
 pub there : {X : Type 0} (xs : List X) (i : ℕ) (d : X) → i < length xs → slice_get xs i ≡ Some (get_or xs i d)
 there [] i d less = absurd (omega (arith, less))
 there (x ∷ xs) zero d less = refl
 there (x ∷ xs) (suc i) d less = there xs i d (omega (arith, less))
+
+-- an item that is there is not another one in its place
+pub same-there : {X : Type 0} (xs : List X) (i : ℕ) (d k : X) → i < length xs → get_or xs i d ≡ get_or xs i k
+same-there xs i d k less = let e : Some (get_or xs i d) ≡ Some (get_or xs i k) = sym (there xs i d less) ∙ there xs i k less in cc
 
 pub copied-or : {X : Type 0} (a b : Option (Bor X)) → option_copied (option_or a b) ≡ option_or (option_copied a) (option_copied b)
 copied-or None b = refl
@@ -108,6 +112,38 @@ pub chain-all :
     LeadsWhole found index chain
 chain-all found index at chain d inside is so_far = leads-all found index at chain (get_or found at d) (there found at d inside) is so_far
 
+pub chain-asks :
+    (found : List Found) (user index at next : ℕ) (chain new : List State) (so_far after : Password) (d k e : Found) →
+    at < length found → next < length found → (get_or found at d).next ≡ Some next → new ≡ chain ++ (get_or found next e).state ∷ [] →
+    after ≡ worse so_far (step_password (get_or found at k).given user (get_or found at k).state) →
+    AsksSoFar found user index at chain so_far → AsksSoFar found user index next new after
+chain-asks found user index at next chain new so_far after d k e inside also is more worst asks =
+    subst (AsksSoFar found user index next new) (sym worst)
+    (subst (λ c. AsksSoFar found user index next c (worse so_far (step_password (get_or found at k).given user (get_or found at k).state)))
+    (sym more)
+    (asks-more found user index at next chain so_far (get_or found at k) (get_or found next e) (there found at k inside)
+    (ap (λ (f : Found). f.next) (same-there found at k d inside) ∙ is) (there found next e also) asks))
+
+pub chain-row :
+    (found : List Found) (index at next : ℕ) (chain new : List State) (d e : Found) → at < length found → next < length found →
+    (get_or found at d).next ≡ Some next → new ≡ chain ++ (get_or found next e).state ∷ [] → RowSoFar found index at chain
+    → RowSoFar found index next new
+chain-row found index at next chain new d e inside also is more row =
+    subst (RowSoFar found index next) (sym more)
+    (row-more found index at next chain (get_or found at d) (get_or found next e) (there found at d inside) is
+    (there found next e also) row)
+
+pub chain-password :
+    (found : List Found) (user index at : ℕ) (chain : List State) (password : Password) (d : Found) → at < length found →
+    (get_or found at d).next ≡ None → AsksSoFar found user index at chain password → HasPassword found user index chain password
+chain-password found user index at chain password d inside is asks =
+    asks-all found user index at chain password (get_or found at d) (there found at d inside) asks
+
+pub chain-by :
+    (found : List Found) (index at : ℕ) (chain : List State) (d : Found) → at < length found → (get_or found at d).next ≡ None
+    → RowSoFar found index at chain → HasRow found index chain
+chain-by found index at chain d inside is row = row-all found index at chain (get_or found at d) (there found at d inside) is row
+
 pub chain-within :
     (found : List Found) (next : ℕ) (chain new : List State) (e : Found) → next < length found → new ≡ chain
     ++ (get_or found next e).state ∷ [] →
@@ -126,23 +162,23 @@ states-inside g found right s c =
 
 pub way-is :
     (h : HostSteps) (q : Sought) (least : Level) (found : List Found) (index : ℕ) (d f : Found) (chain : Vec State Global)
-    (by : Option AllowingRow) (password : Password)
-    (states same : List State) → AreFound (steps_of h q) h.states.now least found → index < length found → slice_get found index ≡ Some f →
-    LeadsWhole found index chain.items → All (Contains (found_states found)) chain.items → states ≡ chain.items → by
-    ≡ first_row h (get_or found index d).state states → same ≡ chain.items →
-    password ≡ password_along h (get_or found index d).state.user (get_or found index d).state same →
-    IsChain h q least f.state (record { level = (get_or found index d).level; chain = chain; by = by; password = password })
-way-is h q least found index d f chain by password states same are inside at leads within first is also asks =
+    (password : Password) → AreFound (steps_of h q) h.states.now least found → AreGiven h found → index < length found →
+    slice_get found index ≡ Some f → LeadsWhole found index chain.items → All (Contains (found_states found)) chain.items →
+    HasRow found index chain.items → HasPassword found (get_or found index d).state.user index chain.items password →
+    IsChain h q least f.state
+    (record { level = (get_or found index d).level; chain = chain; by = (get_or found index d).given.by; password = password })
+way-is h q least found index d f chain password are given inside at leads within row asks =
     subst (λ (e : Found). IsChain h q least e.state
-    (record { level = (get_or found index d).level; chain = chain; by = by; password = password })) this (record {
+    (record { level = (get_or found index d).level; chain = chain; by = (get_or found index d).given.by; password = password })) this
+    (record {
       inside = All-weaker (Contains (found_states found)) (Contains (steps_of h q).states)
           (states-inside (steps_of h q) found are.right) chain.items within;
       leads = leads (steps_of h q) (get_or found index d) are.linked (there found index d inside);
       best = (All-contains (IsFound (steps_of h q)) found (get_or found index d) are.right (Contains-get_or found index d inside)).best;
       enough = All-contains (λ f. is_at_least least f.level ≡ true) found (get_or found index d) are.levels
           (Contains-get_or found index d inside);
-      by = is ∙ ap (first_row h (get_or found index d).state) first;
-      password = asks ∙ ap (password_along h (get_or found index d).state.user (get_or found index d).state) also;
+      by = row h (get_or found index d) given (there found index d inside);
+      password = asks h (get_or found index d) given (there found index d inside);
     })
   where
     this : get_or found index d ≡ f

@@ -25,7 +25,7 @@ use Rattle.review_roots.specs.Asked.{better, given_alone, given_asked, is_better
 use Rattle.review_roots.specs.Blocks.{block_rows, is_for, lists, standing_rows, stands, with_row, with_rows}
 use Rattle.review_roots.specs.Body.Effects.{free_by, level_behind, level_by, unasked_by}
 use Rattle.review_roots.specs.Body.Found.{IsCandidate}
-use Rattle.review_roots.specs.Body.May.{may_at, may_count, may_for, may_if, may_nothing, may_of, may_with, unasked_behind}
+use Rattle.review_roots.specs.Body.May.{may_at, may_count, may_reach, may_for, may_if, may_nothing, may_of, may_with, unasked_behind}
 use Rattle.review_roots.specs.Body.Raising.{indices, indices_from}
 use Rattle.review_roots.specs.Body.Rows.{by_behind}
 use Rattle.review_roots.specs.Levels.{after_signed, lowered, raised}
@@ -294,13 +294,21 @@ module _ (h : HostSteps) (c : Candidate) (is : IsCandidate h c) where
       better-within (given_asked h.checked.now h.directory.now c.person h.host.now (Some v) g)
       (given_alone h.checked.now h.directory.now h.host.now c.person v g) most (asked-within (Some v) g) (alone-within v g)
 
-  pub uncounted :
-      (k : Counted) (l : Level) → may_count h.on.items h.blocks.now h.least k c.listed.items ≡ false → is_at_least h.least l ≡ true →
+  unreached :
+      (k : Counted) (l : Level) → may_reach h.on.items h.blocks.now h.least k c.listed.items ≡ false → is_at_least h.least l ≡ true →
       (v : Option Person) (g : Option Group) →
       is_at_least l (level_for k (given_between h.checked.now h.directory.now h.host.now (Some c.person) v g)) ≡ false
-  uncounted k l none above v g =
+  unreached k l none above v g =
       let a = given_between h.checked.now h.directory.now h.host.now (Some c.person) v g in
       let less = not-at-least h.least (may_for k most) none in
       let up = leb-true (rank h.least) (rank l) above in
       let below = leb-true (rank (level_for k a)) (rank (may_for k most)) (level-within k a most (between-within v g)) in
       below-not l (level_for k a) (omega (arith, less, up, below))
+
+  pub uncounted :
+      (k : Counted) (l : Level) → may_count h.on.items h.blocks.now h.least k c.listed.items ≡ false → is_at_least h.least l ≡ true →
+      (v : Option Person) (g : Option Group) →
+      is_at_least l (level_for k (given_between h.checked.now h.directory.now h.host.now (Some c.person) v g)) ≡ false
+  uncounted counted.Any l none above v g = cc
+  uncounted counted.Unasked l none above v g = unreached counted.Unasked l none above v g
+  uncounted counted.Free l none above v g = unreached counted.Free l none above v g

@@ -1,9 +1,10 @@
 -- A chain from a state is one, through the states that are kept, from each kept state that is alike.
-use Rattle.std.proofs.Common.{◌≡◌, ◌<◌, ◌∙◌, ℕ, zero, suc, Bool, true, false, not, ◌||◌, ◌==◌, List, ap, length}
+use Rattle.std.proofs.Common.{◌≡◌, ◌<◌, ◌∙◌, ℕ, zero, suc, Bool, true, false, not, ◌||◌, ◌==◌, List, [], ◌∷◌, ap, arith, get_or, length}
 use Rattle.std.proofs.Common.{refl, subst, sym, Option, Some, None, inl, inr, ◌⊎◌}
 use Rattle.std.specs.Prelude.{All, option_map, slice_get}
 use Rattle.std.specs.List.{Contains, list_any}
 use Rattle.std.proofs.lemmas.Bool.{eqb-true}
+use Rattle.std.proofs.lemmas.Option.{slice_get_within}
 use Rattle.std.proofs.lemmas.List.Elements.{All-contains, All-weaker}
 use Rattle.sudo_match.specs.declared.people.Group.{Group}
 use Rattle.sudo_match.specs.declared.people.Person.{Person}
@@ -14,7 +15,8 @@ use Rattle.review_roots.specs.declared.level.Level.{Level}
 use Rattle.review_roots.specs.declared.search.Found.{Found}
 use Rattle.review_roots.specs.declared.search.Sought.{Sought}
 use Rattle.review_roots.specs.declared.state.State.{State}
-use Rattle.review_roots.specs.Body.Found.{AreFound, IsFound, IsLinked, found_states, is_start, kept_steps}
+use Rattle.review_roots.specs.Body.Found.{AreFound, AreStarts, HaveNoChain, IsFound, IsFoundAt, IsLinked}
+use Rattle.review_roots.specs.Body.Found.{found_states, is_start, kept_steps}
 use Rattle.review_roots.specs.Body.Kept.{AreAlike, AreBothUnnamed, AreKept, IsAlike}
 use Rattle.review_roots.specs.Body.Unnamed.{is_unnamed}
 use Rattle.review_roots.specs.Chains.{Steps, Path, here, more, HasPath, HasNoPath}
@@ -323,3 +325,18 @@ pub no-root :
     → HasNoPath (any_steps h target) least (state_with None user)
 no-root h target least found user are less none =
     not-found (any_steps h target) h.states.now least found user are ((host-keeps h).starts user less) none
+
+-- nor does one lead from a user whose start is none
+pub starts-chainless :
+    (h : HostSteps) (target : ℕ) (found : List Found) (starts : List (Option ℕ)) →
+    AreFound (any_steps h target) h.states.now h.least found →
+    AreStarts found starts → length starts ≡ length h.directory.now.people → HaveNoChain h target starts
+starts-chainless h target found starts are begin known user none =
+    let within = slice_get_within starts user None none in
+    no-root h target h.least found user are (omega (arith, within, known))
+    (subst (IsFoundAt found user) (no-start starts user none) (begin user within))
+  where
+    no-start : (xs : List (Option ℕ)) (i : ℕ) → slice_get xs i ≡ Some None → get_or xs i None ≡ None
+    no-start [] i e = refl
+    no-start (x ∷ xs) zero e = cc
+    no-start (x ∷ xs) (suc i) e = no-start xs i e

@@ -10,6 +10,7 @@ use Rattle.std.proofs.lemmas.List.Elements.{All-append, All-contains, All-contai
 use Rattle.std.proofs.lemmas.List.Elements.{Contains-append_left, Contains-append_right}
 use Rattle.std.proofs.lemmas.Option.{slice_get_within}
 use Rattle.sudo_base.proofs.Lists.{slice_get-append-left}
+use Rattle.review_roots.specs.declared.given.Given.{Given}
 use Rattle.review_roots.specs.declared.level.Level.{Level}
 use Rattle.review_roots.specs.declared.level.Level.TheVariants as level
 use Rattle.review_roots.specs.declared.search.Found.{Found}
@@ -190,12 +191,13 @@ listed-alone level.All e f h = absurd (f refl)
 abbrev pub drawn_to : Steps State → Level → State → State → Bool
 drawn_to g l t s = is_at_least l (g.level s t)
 
-abbrev pub new_found : Level → ℕ → State → Found
-new_found l n s = record { state = s; level = l; next = Some n }
+-- a found state by a step to the aim, with what that gives
+abbrev pub new_found : (State → Given) → Level → ℕ → State → Found
+new_found give l n s = record { state = s; level = l; next = Some n; given = give s }
 
-new-states : (l : Level) (n : ℕ) (xs : List State) → found_states (map (new_found l n) xs) ≡ xs
-new-states l n [] = refl
-new-states l n (x ∷ xs) = ap (λ ys. x ∷ ys) (new-states l n xs)
+new-states : (give : State → Given) (l : Level) (n : ℕ) (xs : List State) → found_states (map (new_found give l n) xs) ≡ xs
+new-states give l n [] = refl
+new-states give l n (x ∷ xs) = ap (λ ys. x ∷ ys) (new-states give l n xs)
 
 pub both-all : {X : Type 0} (P Q : X → Type 0) (xs : List X) → All P xs → All Q xs → All (λ x. P x × Q x) xs
 both-all P Q xs p q k d h = (p k d h, q k d h)
@@ -208,7 +210,7 @@ not-false : (b : Bool) → b ≡ false → not b ≡ true
 not-false true e = cc
 not-false false e = refl
 
-module _ (g : Steps State) (least l : Level) (n : ℕ) (t : Found) (found : List Found) (left : List State)
+module _ (g : Steps State) (give : State → Given) (least l : Level) (n : ℕ) (t : Found) (found : List Found) (left : List State)
     (search : IsSearch g least l found left) (there : slice_get found n ≡ Some t) where
   abbrev r : State → Bool
   r = drawn_to g l t.state
@@ -220,7 +222,7 @@ module _ (g : Steps State) (least l : Level) (n : ℕ) (t : Found) (found : List
   kept = filter (λ s. not (r s)) left
 
   abbrev grown : List Found
-  grown = found ++ map (new_found l n) taken
+  grown = found ++ map (new_found give l n) taken
 
   t_level : is_at_least l t.level ≡ true
   t_level = All-contains (λ f. is_at_least l f.level ≡ true) found t search.levels (at-contains found t n there)
@@ -231,7 +233,7 @@ module _ (g : Steps State) (least l : Level) (n : ℕ) (t : Found) (found : List
       (f.path.0, path-weaker g l t.level t_level f.path.0 t.state f.path.1)
 
   taken_right : (s : State) → (Contains g.states s × ((m : Level) → rank l < rank m → HasNoPath g m s)) × (r s ≡ true)
-      → IsFound g (new_found l n s)
+      → IsFound g (new_found give l n s)
   taken_right s h = record {
     inside = h.0.0;
     path = (suc t_path.0, more h.0.0 h.1 t_path.1);
@@ -251,14 +253,14 @@ module _ (g : Steps State) (least l : Level) (n : ℕ) (t : Found) (found : List
       (filter_passes r left)
 
   grown_linked : AreLinked g grown
-  grown_linked i f at = go (get-append-cases found (map (new_found l n) taken) i f at)
+  grown_linked i f at = go (get-append-cases found (map (new_found give l n) taken) i f at)
     where
       old : (o : Option ℕ) → IsLinked g found i f o → IsLinked g grown i f o
       old None h = h
       old (Some next) h = (
         h.0,
         record {
-          there = get-append found (map (new_found l n) taken) next h.0 h.1.there;
+          there = get-append found (map (new_found give l n) taken) next h.0 h.1.there;
           before = h.1.before;
           step =
               h.1.step;
@@ -266,16 +268,16 @@ module _ (g : Steps State) (least l : Level) (n : ℕ) (t : Found) (found : List
         },
       )
 
-      go : (slice_get found i ≡ Some f) ⊎ ((length found ≤ i) × Contains (map (new_found l n) taken) f) → IsLinked g grown i f f.next
+      go : (slice_get found i ≡ Some f) ⊎ ((length found ≤ i) × Contains (map (new_found give l n) taken) f) → IsLinked g grown i f f.next
       go (inl before) = old f.next (search.linked i f before)
       go (inr new) =
-          let s = from-map (new_found l n) taken f new.1 in
+          let s = from-map (new_found give l n) taken f new.1 in
           let passes : r s.0 ≡ true = All-contains (λ s. r s ≡ true) taken s.0 (filter_passes r left) s.1 in
           let w = slice_get_within found n t there in
           subst (λ (h : Found). IsLinked g grown i h h.next) s.2 (
             t,
             record {
-              there = get-append found (map (new_found l n) taken) n t there;
+              there = get-append found (map (new_found give l n) taken) n t there;
               before = omega (arith, w, new.0);
               step =
                   passes;
@@ -286,28 +288,28 @@ module _ (g : Steps State) (least l : Level) (n : ℕ) (t : Found) (found : List
   grown_covered : (s : State) → Contains (found_states found) s ⊎ (Contains left s ⊎ IsStuck g least s) → Contains (found_states grown) s
       ⊎ (Contains kept s ⊎ IsStuck g least s)
   grown_covered s (inl in_found) =
-      inl (subst (λ xs. Contains xs s) (sym (map-append (λ (f : Found). f.state) found (map (new_found l n) taken)))
-      (Contains-append_left (found_states found) (found_states (map (new_found l n) taken)) s in_found))
+      inl (subst (λ xs. Contains xs s) (sym (map-append (λ (f : Found). f.state) found (map (new_found give l n) taken)))
+      (Contains-append_left (found_states found) (found_states (map (new_found give l n) taken)) s in_found))
   grown_covered s (inr (inr stuck)) = inr (inr stuck)
   grown_covered s (inr (inl in_left)) = go (r s) refl
     where
       go : (b : Bool) → r s ≡ b → Contains (found_states grown) s ⊎ (Contains kept s ⊎ IsStuck g least s)
       go true e =
-          inl (subst (λ xs. Contains xs s) (sym (map-append (λ (f : Found). f.state) found (map (new_found l n) taken)))
-          (Contains-append_right (found_states found) (found_states (map (new_found l n) taken)) s
-          (subst (λ xs. Contains xs s) (sym (new-states l n taken)) (in-filter r left s in_left e))))
+          inl (subst (λ xs. Contains xs s) (sym (map-append (λ (f : Found). f.state) found (map (new_found give l n) taken)))
+          (Contains-append_right (found_states found) (found_states (map (new_found give l n) taken)) s
+          (subst (λ xs. Contains xs s) (sym (new-states give l n taken)) (in-filter r left s in_left e))))
       go false e = inr (inl (in-filter (λ s. not (r s)) left s in_left (not-false (r s) e)))
 
   pub drawn-search : IsSearch g least l grown kept
   drawn-search = record {
     level = search.level;
-    right = All-append (IsFound g) found (map (new_found l n) taken) search.right
-        (All-map (IsFound g) (new_found l n) taken
+    right = All-append (IsFound g) found (map (new_found give l n) taken) search.right
+        (All-map (IsFound g) (new_found give l n) taken
         (All-weaker (λ s. (Contains g.states s × ((m : Level) → rank l < rank m → HasNoPath g m s)) × (r s ≡ true))
-        (λ s. IsFound g (new_found l n s)) taken_right taken taken_known));
+        (λ s. IsFound g (new_found give l n s)) taken_right taken taken_known));
     linked = grown_linked;
-    levels = All-append (λ f. is_at_least l f.level ≡ true) found (map (new_found l n) taken) search.levels
-        (All-map (λ f. is_at_least l f.level ≡ true) (new_found l n) taken (λ k d h. at-least-itself l));
+    levels = All-append (λ f. is_at_least l f.level ≡ true) found (map (new_found give l n) taken) search.levels
+        (All-map (λ f. is_at_least l f.level ≡ true) (new_found give l n) taken (λ k d h. at-least-itself l));
     covered = λ s c. grown_covered s (search.covered s c);
     inside = All-filter (λ s. not (r s)) (Contains g.states) left search.inside;
     away = All-filter (λ s. not (r s)) (λ s. g.goal s ≡ false) left search.away;
@@ -336,7 +338,7 @@ module _ (g : Steps State) (least l : Level) (n : ℕ) (t : Found) (found : List
           w = slice_get_within found n t there
 
           old : slice_get found k ≡ Some f
-          old = sym (slice_get-append-left found (map (new_found l n) taken) k (omega (arith, less, w))) ∙ at
+          old = sym (slice_get-append-left found (map (new_found give l n) taken) k (omega (arith, less, w))) ∙ at
 
           go : (k < n) ⊎ (n ≤ k) → is_at_least l (g.level s f.state) ≡ false
           go (inl before) = h.0 k f before old

@@ -1,12 +1,15 @@
 -- What a search begins with: the states at the goal, and the candidates that are heard; from no other does a step lead.
-use Rattle.std.proofs.Common.{◌≡◌, ◌<◌, ◌≤◌, ◌∙◌, ℕ, zero, Bool, true, false, not, ◌&&◌, ◌==◌, List, [], ◌∷◌, ap, arith, refl}
-use Rattle.std.proofs.Common.{map, sym, subst, Option, Some, None, inl, inr, ◌⊎◌}
-use Rattle.std.specs.Prelude.{All, filter, slice_get}
+use Rattle.std.proofs.Common.{◌≡◌, ◌<◌, ◌≤◌, ◌∙◌, ℕ, zero, Bool, true, false, not, cond, ◌&&◌, ◌==◌, List, [], ◌∷◌, ap, arith, refl}
+use Rattle.std.proofs.Common.{length, map, sym, subst, Option, Some, None, inl, inr, ◌⊎◌}
+use Rattle.std.specs.Prelude.{All, filter, is_some, slice_get}
 use Rattle.std.specs.List.{Contains, list_any, slice_index_or}
 use Rattle.std.proofs.lemmas.Bool.{and_parts, not-true}
 use Rattle.std.proofs.lemmas.List.Elements.{All-contains, All-contains_itself, All-filter, All-map, All-weaker, filter_passes}
 use Rattle.sudo_match.specs.declared.people.Person.{Person}
 use Rattle.review_roots.specs.declared.candidate.Candidate.{Candidate}
+use Rattle.review_roots.specs.declared.given.Counted.{Counted}
+use Rattle.review_roots.specs.declared.given.Counted.TheVariants as counted
+use Rattle.review_roots.specs.declared.given.Given.{Given}
 use Rattle.review_roots.specs.declared.host.HostSteps.{HostSteps}
 use Rattle.review_roots.specs.declared.level.Level.{Level}
 use Rattle.review_roots.specs.declared.level.Level.TheVariants as level
@@ -16,21 +19,40 @@ use Rattle.review_roots.specs.declared.state.State.{State}
 use Rattle.review_roots.specs.Blocks.{is_for}
 use Rattle.review_roots.specs.Body.Candidates.{IsSilent, has_state, is_heard, raises_for, states_of}
 use Rattle.review_roots.specs.Body.Found.{found_states, found_there, IsCandidate, IsFound, IsLinked, IsMute, IsSearch, IsStartOf}
-use Rattle.review_roots.specs.Body.Found.{IsStuck, is_left, kept_steps}
+use Rattle.review_roots.specs.Body.Found.{AreGiven, HaveNoChain, IsGiven, IsStuck, is_counted, is_left, kept_steps, may_start, starts_or}
 use Rattle.review_roots.specs.Body.May.{may_count}
-use Rattle.review_roots.specs.Chains.{Steps, Path, here, more}
+use Rattle.review_roots.specs.Chains.{HasNoPath, Steps, Path, here, more}
 use Rattle.review_roots.specs.Ranks.{rank, is_at_least}
-use Rattle.review_roots.specs.States.{given_between, person_of, group_at, level_for}
+use Rattle.review_roots.specs.Sought.{any_steps}
+use Rattle.review_roots.specs.States.{given_between, person_of, group_at, level_for, step_given}
 use Rattle.review_roots.proofs.CandidateLemmas.{has-in}
 use Rattle.review_roots.proofs.IndexLemmas.{any-are, answer-at}
 use Rattle.review_roots.proofs.MayLemmas.{uncounted}
-use Rattle.review_roots.proofs.SearchLemmas.{at-least-below, at-contains, both-all, from-map, in-filter, to-map}
+use Rattle.review_roots.proofs.KeptLemmas.{host-keeps}
+use Rattle.review_roots.proofs.MemberLemmas.{neither}
+use Rattle.review_roots.proofs.SearchLemmas.{at-least-below, at-least-trans, at-contains, both-all, from-map, in-filter, to-map}
 use Rattle.review_roots.proofs.WeakLemmas.{any-weaker, quiet-between, weak-level, weak-nothing}
 
 -- the states at the target are those that are found
 there-states : (xs : List State) → found_states (map found_there xs) ≡ xs
 there-states [] = refl
 there-states (x ∷ xs) = ap (λ ys. x ∷ ys) (there-states xs)
+
+-- a state that may not begin a chain has no added group, and the start of its user is none
+unstarted : (o : Option (Option ℕ)) (b : Bool) → starts_or o b ≡ false → (o ≡ Some None) × (b ≡ false)
+unstarted None b e = cc
+unstarted (Some None) b e = (refl, e)
+unstarted (Some (Some i)) b e = cc
+
+none-is : (o : Option ℕ) → is_some o ≡ false → o ≡ None
+none-is None e = refl
+none-is (Some i) e = cc
+
+-- what they are given is nothing
+pub there-given : (h : HostSteps) (xs : List State) (found : List Found) → found ≡ map found_there xs → AreGiven h found
+there-given h xs found is i f at =
+    let s = from-map found_there xs f (subst (λ fs. Contains fs f) is (at-contains found f i at)) in
+    subst (λ (e : Found). IsGiven h found e e.next) s.2 refl
 
 and-false : (r f : Bool) → r ≡ false → (r && f) ≡ false
 and-false r f e = ap (λ b. b && f) e
@@ -109,18 +131,55 @@ module _ (h : HostSteps) (q : Sought) where
       go (more {n} {s} {t} c step rest) mute =
           let none : is_at_least l (g.level s t) ≡ false = mute.1 t l above in absurd (let bad : true ≡ false = sym step ∙ none in cc)
 
+  -- ---- No chain of the steps that count leads from a user with no chain of any steps
+
+  counted-any :
+      (l : Level) (k : Counted) (a : Given) → is_at_least h.least l ≡ true → is_at_least l (level_for k a) ≡ true →
+      is_at_least h.least a.level ≡ true
+  counted-any l k a above step = go k step
+    where
+      either : (b : Bool) → is_at_least l (cond b a.level level.None) ≡ true → is_at_least h.least a.level ≡ true
+      either true step = at-least-trans h.least l a.level above step
+      either false step =
+          at-least-trans h.least level.None a.level (at-least-trans h.least l level.None above step)
+          (at-least-below level.None a.level (omega arith))
+
+      go : (k : Counted) → is_at_least l (level_for k a) ≡ true → is_at_least h.least a.level ≡ true
+      go counted.Any step = at-least-trans h.least l a.level above step
+      go counted.Unasked step = either a.unasked step
+      go counted.Free step = either a.free step
+
+  any-path : (l : Level) → is_at_least h.least l ≡ true → {n : ℕ} {s : State} → Path g l n s → Path (any_steps h q.target) h.least n s
+  any-path l above (here {s} c at) =
+      here (All-contains (Contains (any_steps h q.target).states) h.states.now s (host-keeps h).inside c) at
+  any-path l above (more {n} {s} {t} c step rest) =
+      more (All-contains (Contains (any_steps h q.target).states) h.states.now s (host-keeps h).inside c)
+      (counted-any l q.counted (step_given h.checked.now h.directory.now h.host.now h.groups.now s t) above step) (any-path l above rest)
+
+  chainless-stuck : (s : State) → HasNoPath (any_steps h q.target) h.least s → IsStuck g h.least s
+  chainless-stuck s none l above n p = none n (any-path l above p)
+
+  unstarted-stuck : (starts : List (Option ℕ)) → HaveNoChain h q.target starts → (s : State) → may_start starts s ≡ false
+      → IsStuck g h.least s
+  unstarted-stuck starts none s e =
+      let is = unstarted (slice_get starts s.user) (is_some s.added) e in
+      chainless-stuck s
+      (subst (λ o. HasNoPath (any_steps h q.target) h.least (record { user = s.user; added = o })) (sym (none-is s.added is.1))
+      (none s.user is.0))
+
   -- ---- The search begins
 
   abbrev at_goal : State → Bool
   at_goal s = s.user == q.target
 
   abbrev counts : Candidate → Bool
-  counts c = may_count h.on.items h.blocks.now h.least q.counted c.listed.items
+  counts c = is_counted h q.counted c
 
   pub start-of :
-      (found : List Found) (left : List Candidate) → found ≡ map found_there (filter at_goal g.states) →
-      left ≡ filter (is_left h q) h.candidates.now → IsStartOf h q found left
-  start-of found left finds leaves = record {
+      (starts : List (Option ℕ)) (found : List Found) (left : List Candidate) → HaveNoChain h q.target starts →
+      found ≡ map found_there (filter at_goal g.states) →
+      left ≡ filter (is_left h q starts) h.candidates.now → IsStartOf h q found left
+  start-of starts found left chainless finds leaves = record {
     goals = subst (All Goal) (sym finds)
         (All-map Goal found_there (filter at_goal g.states)
         (All-weaker (λ s. at_goal s ≡ true) (λ s. Goal (found_there s)) (λ s at. (refl, (refl, at))) (filter at_goal g.states)
@@ -129,17 +188,18 @@ module _ (h : HostSteps) (q : Sought) where
         (All-map (λ f. Contains g.states f.state) found_there (filter at_goal g.states)
         (All-filter at_goal (Contains g.states) g.states (All-contains_itself g.states)));
     candidates = subst (All (IsCandidate h)) (sym leaves)
-        (All-filter (is_left h q) (IsCandidate h) h.candidates.now h.covered.known);
+        (All-filter (is_left h q starts) (IsCandidate h) h.candidates.now h.covered.known);
     inside = subst (All (λ c. Contains g.states c.state)) (sym leaves)
-        (All-filter (is_left h q) (λ c. Contains g.states c.state) h.candidates.now
+        (All-filter (is_left h q starts) (λ c. Contains g.states c.state) h.candidates.now
         (All-weaker (λ c. has_state g.states c.state ≡ true) (λ c. Contains g.states c.state) (λ c has. has-in g.states c.state has)
         h.candidates.now h.covered.inside));
     away = subst (All (λ c. g.goal c.state ≡ false)) (sym leaves)
-        (All-weaker (λ c. is_left h q c ≡ true) (λ c. g.goal c.state ≡ false)
+        (All-weaker (λ c. is_left h q starts c ≡ true) (λ c. g.goal c.state ≡ false)
         (λ c is. not-true (c.state.user == q.target)
         (and_parts (not (c.state.user == q.target)) (list_any (λ i. slice_index_or h.on.items i false) c.strong.items)
-        (and_parts (is_heard h.on.items q.target c) (counts c) is).0).0)
-        (filter (is_left h q) h.candidates.now) (filter_passes (is_left h q) h.candidates.now));
+        (and_parts (is_heard h.on.items q.target c) (counts c)
+        (and_parts (may_start starts c.state) (is_heard h.on.items q.target c && counts c) is).1).0).0)
+        (filter (is_left h q starts) h.candidates.now) (filter_passes (is_left h q starts) h.candidates.now));
     covered = All-weaker (λ s. Contains g.states s × (has_state (states_of h.candidates.now) s ≡ false → Silent s)) Covered
         (λ s is. go s is.0 is.1 (at_goal s) refl (has_state (states_of h.candidates.now) s) refl) g.states
         (both-all (Contains g.states) (λ s. has_state (states_of h.candidates.now) s ≡ false → Silent s) g.states
@@ -153,24 +213,30 @@ module _ (h : HostSteps) (q : Sought) where
       Silent s = IsSilent h.checked.now h.directory.now h.groups.now h.least h.blocks.now s
 
       Covered : State → Type 0
-      Covered s = Contains (found_states found) s ⊎ (Contains (states_of left) s ⊎ IsMute g h.least s)
+      Covered s = Contains (found_states found) s ⊎ (Contains (states_of left) s ⊎ IsStuck g h.least s)
 
       by_candidate : (s : State) (c : Candidate) → Contains h.candidates.now c → c.state ≡ s → at_goal s ≡ false → (b : Bool)
-          → list_any (λ i. slice_index_or h.on.items i false) c.strong.items ≡ b → (k : Bool) → counts c ≡ k → Covered s
-      by_candidate s c inside at away true is true may =
+          → list_any (λ i. slice_index_or h.on.items i false) c.strong.items ≡ b → (k : Bool) → counts c ≡ k
+          → (m : Bool) → may_start starts c.state ≡ m → Covered s
+      by_candidate s c inside at away true is true may true begins =
           inr (inl (subst (λ cs. Contains (states_of cs) s) (sym leaves)
-          (subst (Contains (states_of (filter (is_left h q) h.candidates.now))) at
-          (to-map (λ (c : Candidate). c.state) (filter (is_left h q) h.candidates.now) c
-          (in-filter (is_left h q) h.candidates.now c inside
-          (ap (λ t. (not (t.user == q.target) && list_any (λ i. slice_index_or h.on.items i false) c.strong.items) && counts c) at
+          (subst (Contains (states_of (filter (is_left h q starts) h.candidates.now))) at
+          (to-map (λ (c : Candidate). c.state) (filter (is_left h q starts) h.candidates.now) c
+          (in-filter (is_left h q starts) h.candidates.now c inside
+          (ap (λ m. m && (is_heard h.on.items q.target c && counts c)) begins
+          ∙ ap (λ t. (not (t.user == q.target) && list_any (λ i. slice_index_or h.on.items i false) c.strong.items) && counts c) at
           ∙ ap (λ a. (not a && list_any (λ i. slice_index_or h.on.items i false) c.strong.items) && counts c) away
           ∙ ap (λ a. a && counts c) is ∙ may))))))
-      by_candidate s c inside at away true is false may =
-          inr (inr (subst (IsMute g h.least) at
-          (no-step-counts c (All-contains (IsCandidate h) h.candidates.now c h.covered.known inside) may (ap g.goal at ∙ away))))
-      by_candidate s c inside at away false is k may =
-          inr (inr (subst (IsMute g h.least) at
-          (unheard-mute c (All-contains (IsCandidate h) h.candidates.now c h.covered.known inside) is (ap g.goal at ∙ away))))
+      by_candidate s c inside at away b is k may false begins =
+          inr (inr (subst (IsStuck g h.least) at (unstarted-stuck starts chainless c.state begins)))
+      by_candidate s c inside at away true is false may true begins =
+          inr (inr (subst (IsStuck g h.least) at (mute-stuck c.state
+          (no-step-counts c (All-contains (IsCandidate h) h.candidates.now c h.covered.known inside)
+          (neither (length h.groups.now == 0) (may_count h.on.items h.blocks.now h.least q.counted c.listed.items) may).1
+          (ap g.goal at ∙ away)))))
+      by_candidate s c inside at away false is k may true begins =
+          inr (inr (subst (IsStuck g h.least) at (mute-stuck c.state
+          (unheard-mute c (All-contains (IsCandidate h) h.candidates.now c h.covered.known inside) is (ap g.goal at ∙ away)))))
 
       go :
           (s : State) → Contains g.states s → (has_state (states_of h.candidates.now) s ≡ false → Silent s) → (b : Bool) → at_goal s ≡ b →
@@ -181,7 +247,8 @@ module _ (h : HostSteps) (q : Sought) where
       go s inside silent false away true has =
           let c = from-map (λ (c : Candidate). c.state) h.candidates.now s (has-in (states_of h.candidates.now) s has) in
           by_candidate s c.0 c.1 c.2 away (list_any (λ i. slice_index_or h.on.items i false) c.0.strong.items) refl (counts c.0) refl
-      go s inside silent false away false none = inr (inr (silent-mute s (silent none) away))
+          (may_start starts c.0.state) refl
+      go s inside silent false away false none = inr (inr (mute-stuck s (silent-mute s (silent none) away)))
 
   rank-most : (l : Level) → rank l ≤ 3
   rank-most level.None = omega arith
@@ -208,18 +275,11 @@ module _ (h : HostSteps) (q : Sought) where
     levels = All-weaker (λ f. (f.level ≡ level.All) × ((f.next ≡ None) × (g.goal f.state ≡ true)))
         (λ f. is_at_least level.All f.level ≡ true)
         (λ f k. ap (is_at_least level.All) k.0) found start.goals;
-    covered = λ s c. widen s
-        (All-contains (λ s. Contains (found_states found) s ⊎ (Contains (states_of left) s ⊎ IsMute g h.least s)) g.states s
-        start.covered c);
+    covered = λ s c.
+        All-contains (λ s. Contains (found_states found) s ⊎ (Contains (states_of left) s ⊎ IsStuck g h.least s)) g.states s
+        start.covered c;
     inside = All-map (Contains g.states) (λ (c : Candidate). c.state) left start.inside;
     away = All-map (λ s. g.goal s ≡ false) (λ (c : Candidate). c.state) left start.away;
     above = All-map (λ s. (m : Level) → rank level.All < rank m → (n : ℕ) → Path g m n s → ⊥) (λ (c : Candidate). c.state) left
         (λ k d inside m less n p. let most = rank-most m in omega (arith, less, most));
   }
-    where
-      widen :
-          (s : State) → Contains (found_states found) s ⊎ (Contains (states_of left) s ⊎ IsMute g h.least s) →
-          Contains (found_states found) s ⊎ (Contains (states_of left) s ⊎ IsStuck g h.least s)
-      widen s (inl f) = inl f
-      widen s (inr (inl k)) = inr (inl k)
-      widen s (inr (inr mute)) = inr (inr (mute-stuck s mute))

@@ -1,9 +1,8 @@
 -- The chain of a found state leads to the goal, and its steps ask for the passwords that are named.
-use Rattle.std.proofs.Common.{◌≡◌, ◌<◌, ◌∙◌, ◌+◌, ℕ, true, List, [], ◌∷◌, ◌++◌, ap, append-nil, append_assoc, refl, drop, get_or}
-use Rattle.std.proofs.Common.{length, sym, subst}
+use Rattle.std.proofs.Common.{◌≡◌, ◌∙◌, ◌⊎◌, ℕ, true, List, [], ◌∷◌, ◌++◌, ap, append-nil, append_assoc, inl, inr, refl}
+use Rattle.std.proofs.Common.{sym, subst}
 use Rattle.std.proofs.Common.{Some, None}
 use Rattle.std.specs.Prelude.{slice_get}
-use Rattle.std.proofs.lemmas.List.{drop_more}
 use Rattle.review_roots.specs.declared.given.Given.{Given}
 use Rattle.review_roots.specs.declared.host.HostSteps.{HostSteps}
 use Rattle.review_roots.specs.declared.search.Found.{Found}
@@ -11,9 +10,10 @@ use Rattle.review_roots.specs.declared.state.State.{State}
 use Rattle.review_roots.specs.declared.way.Password.{Password}
 use Rattle.review_roots.specs.declared.way.Password.TheVariants as password
 use Rattle.review_roots.specs.Chains.{Steps, LeadsAlong}
-use Rattle.review_roots.specs.Body.Found.{IsLinked, AreLinked}
+use Rattle.review_roots.specs.Body.Found.{AreGiven, AreLinked, IsGiven, IsLinked}
+use Rattle.review_roots.specs.Body.Passing.{HasPassword, HasRow, LeadsWhole}
 use Rattle.review_roots.specs.Ranks.{is_at_least}
-use Rattle.review_roots.specs.Ways.{worse, step_password, step_on, password_along}
+use Rattle.review_roots.specs.Ways.{first_row, worse, step_password, step_on, password_along}
 use Rattle.review_roots.proofs.SearchLemmas.{at-least-trans, at-least-itself}
 
 -- the chain so far, behind which any chain from the state reached leads on
@@ -22,11 +22,6 @@ LeadsSoFar found index at chain =
     (g : Steps State) (f t : Found) → AreLinked g found → slice_get found index ≡ Some f → slice_get found at ≡ Some t →
     (is_at_least f.level t.level ≡ true)
     × ((rest : List State) → LeadsAlong g f.level t.state rest → LeadsAlong g f.level f.state (chain ++ rest))
-
--- the chain leads to the goal
-abbrev pub LeadsWhole : List Found → ℕ → List State → Type 0
-LeadsWhole found index chain =
-    (g : Steps State) (f : Found) → AreLinked g found → slice_get found index ≡ Some f → LeadsAlong g f.level f.state chain
 
 pub leads-first : (found : List Found) (index : ℕ) → LeadsSoFar found index index []
 leads-first found index g f t linked first now =
@@ -97,16 +92,83 @@ worse-assoc password.Own password.Own password.Own = refl
 worse-assoc password.Own password.Own password.Other = refl
 worse-assoc password.Own password.Other r = refl
 
--- one step more
-pub passwords-more :
-    (h : HostSteps) (user : ℕ) (from : State) (chain : List State) (at : ℕ) (to : State) (given : Given) (so_far new whole : Password) →
-    at < length chain → to ≡ get_or chain at to → worse so_far (password_along h user from (drop at chain)) ≡ whole → given
-    ≡ step_on h from to →
-    new ≡ worse so_far (step_password given user from) → worse new (password_along h user to (drop (at + 1) chain)) ≡ whole
-passwords-more h user from chain at to given so_far new whole within is old gives more =
-    ap (λ p. worse p (password_along h user to (drop (at + 1) chain)))
-    (more ∙ ap (λ b. worse so_far (step_password b user from)) gives)
-    ∙ worse-assoc so_far (step_password (step_on h from to) user from) (password_along h user to (drop (at + 1) chain))
-    ∙ ap (λ (ts : List State). worse so_far (password_along h user from ts))
-    (sym (drop_more chain at to within ∙ ap (λ (t : State). t ∷ drop (at + 1) chain) (sym is)))
-    ∙ old
+-- whose passwords the steps so far ask for, behind which any chain from the state reached leads on
+abbrev pub AsksSoFar : List Found → ℕ → ℕ → ℕ → List State → Password → Type 0
+AsksSoFar found user index at chain password =
+    (h : HostSteps) (f t : Found) → AreGiven h found → slice_get found index ≡ Some f → slice_get found at ≡ Some t →
+    (rest : List State) → password_along h user f.state (chain ++ rest) ≡ worse password (password_along h user t.state rest)
+
+pub asks-first : (found : List Found) (user index : ℕ) → AsksSoFar found user index index [] password.None
+asks-first found user index h f t given first now rest =
+    let is : Some f ≡ Some t = sym first ∙ now in
+    let same : f ≡ t = cc in
+    ap (λ (t : Found). password_along h user t.state rest) same
+
+-- the step of a found state gives what is kept with it
+step-gives :
+    (h : HostSteps) (found : List Found) (at next : ℕ) (a b : Found) → AreGiven h found → slice_get found at ≡ Some a → a.next ≡ Some next →
+    slice_get found next ≡ Some b → a.given ≡ step_on h a.state b.state
+step-gives h found at next a b given here is there =
+    let gives = subst (IsGiven h found a) is (given at a here) in
+    let e : Some b ≡ Some gives.0 = sym there ∙ gives.1.0 in
+    let same : b ≡ gives.0 = cc in
+    gives.1.1 ∙ ap (λ (t : Found). step_on h a.state t.state) (sym same)
+
+pub asks-more :
+    (found : List Found) (user index at next : ℕ) (chain : List State) (password : Password) (a b : Found) → slice_get found at ≡ Some a →
+    a.next ≡ Some next → slice_get found next ≡ Some b → AsksSoFar found user index at chain password →
+    AsksSoFar found user index next (chain ++ b.state ∷ []) (worse password (step_password a.given user a.state))
+asks-more found user index at next chain password a b here is there so_far h f t given first now rest =
+    let e : Some b ≡ Some t = sym there ∙ now in
+    let same : b ≡ t = cc in
+    ap (password_along h user f.state) (append_assoc chain (b.state ∷ []) rest)
+    ∙ so_far h f a given first here (b.state ∷ rest)
+    ∙ sym (worse-assoc password (step_password (step_on h a.state b.state) user a.state) (password_along h user b.state rest))
+    ∙ ap (λ g. worse (worse password (step_password g user a.state)) (password_along h user b.state rest))
+    (sym (step-gives h found at next a b given here is there))
+    ∙ ap (λ (t : Found). worse (worse password (step_password a.given user a.state)) (password_along h user t.state rest)) same
+
+pub asks-all :
+    (found : List Found) (user index at : ℕ) (chain : List State) (password : Password) (a : Found) → slice_get found at ≡ Some a →
+    AsksSoFar found user index at chain password → HasPassword found user index chain password
+asks-all found user index at chain password a here so_far h f given first =
+    sym (ap (password_along h user f.state) (sym (append-nil chain)) ∙ so_far h f a given first here [] ∙ worse-none password)
+
+-- ---- The row that allows the first step
+
+-- there is no step so far, or the row of the first one is that which is kept
+abbrev pub RowSoFar : List Found → ℕ → ℕ → List State → Type 0
+RowSoFar found index at chain =
+    ((at ≡ index) × (chain ≡ []))
+    ⊎ ((h : HostSteps) (f : Found) → AreGiven h found → slice_get found index ≡ Some f → (rest : List State) → f.given.by
+    ≡ first_row h f.state (chain ++ rest))
+
+pub row-first : (found : List Found) (index : ℕ) → RowSoFar found index index []
+row-first found index = inl (refl, refl)
+
+pub row-more :
+    (found : List Found) (index at next : ℕ) (chain : List State) (a b : Found) → slice_get found at ≡ Some a → a.next ≡ Some next →
+    slice_get found next ≡ Some b → RowSoFar found index at chain → RowSoFar found index next (chain ++ b.state ∷ [])
+row-more found index at next chain a b here is there (inl none) =
+    inr (λ h f given first rest.
+    let e : Some a ≡ Some f = sym here ∙ ap (slice_get found) none.0 ∙ first in
+    let same : a ≡ f = cc in
+    ap (λ (f : Found). f.given.by) (sym same)
+    ∙ ap (λ (g : Given). g.by) (step-gives h found at next a b given here is there)
+    ∙ ap (λ (f : Found). first_row h f.state (b.state ∷ rest)) same
+    ∙ ap (λ (c : List State). first_row h f.state ((c ++ b.state ∷ []) ++ rest)) (sym none.1))
+row-more found index at next chain a b here is there (inr so_far) =
+    inr (λ h f given first rest.
+    so_far h f given first (b.state ∷ rest)
+    ∙ ap (first_row h f.state) (sym (append_assoc chain (b.state ∷ []) rest)))
+
+pub row-all :
+    (found : List Found) (index at : ℕ) (chain : List State) (a : Found) → slice_get found at ≡ Some a → a.next ≡ None →
+    RowSoFar found index at chain → HasRow found index chain
+row-all found index at chain a here is (inl none) h f given first =
+    let e : Some a ≡ Some f = sym here ∙ ap (slice_get found) none.0 ∙ first in
+    let same : a ≡ f = cc in
+    ap (λ (g : Given). g.by) (subst (IsGiven h found f) (ap (λ (f : Found). f.next) (sym same) ∙ is) (given index f first))
+    ∙ ap (first_row h f.state) (sym none.1)
+row-all found index at chain a here is (inr so_far) h f given first =
+    so_far h f given first [] ∙ ap (first_row h f.state) (append-nil chain)

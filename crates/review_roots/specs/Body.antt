@@ -11,3 +11,4 @@ pub mod Kept
 pub mod Naming
 pub mod Passing
 pub mod May
+pub mod Settled

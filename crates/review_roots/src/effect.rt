@@ -2,6 +2,7 @@
 ghost use Rattle.std.specs.Prelude.{◌≡◌};
 ghost use Rattle.review_roots.specs.Passwords.{free_after, nopasswd, unasked_after};
 ghost use Rattle.review_roots.specs.Body.Effects as spec;
+ghost use Rattle.review_roots.specs.Body.Settled.{agree, settles};
 
 use crate::Level;
 use crate::block::Sign;
@@ -116,7 +117,27 @@ pub(crate) fn effect_of(tags: Tags, signs: &[Sign]) -> Effect
     }
 }
 
+// Whether both hold, or none does.
+fn agree(one: bool, other: bool) -> bool
+    ensures { result ≡ agree one other }
+{
+    if one { other } else { !other }
+}
+
 impl Effect {
+    /// Whether what is given behind the rows is the same whatever was given before them.
+    pub(crate) fn settles(self) -> bool
+        ensures { result ≡ settles self }
+    {
+        let all = self.all.rank();
+        self.allows
+            && self.none.rank() == all
+            && self.listed.rank() == all
+            && self.all_but.rank() == all
+            && agree(self.newly_free, self.free)
+            && agree(self.newly_unasked, self.unasked)
+    }
+
     /// Returns the level behind the rows.
     pub(crate) fn level_after(self, before: Level) -> Level
         ensures { result ≡ spec.level_by self before }

@@ -56,7 +56,7 @@ fn asked_way(
     user: usize,
     index: usize,
 ) -> Result<Way, AllocError>
-    requires chains { AreChains (length steps.now.directory.now.people) chains.now }
+    requires chains { AreChains steps.now chains.now }
     requires known { user < length steps.now.directory.now.people }
     requires start { IsFoundAt chains.now.any.items user (Some index) }
     ensures { IfOk result (λ way. (least : TheLevel) → ChainsLead steps.now target least chains.now
@@ -78,7 +78,7 @@ fn best_way(
     user: usize,
     index: usize,
 ) -> Result<Way, AllocError>
-    requires chains { AreChains (length steps.now.directory.now.people) chains.now }
+    requires chains { AreChains steps.now chains.now }
     requires known { user < length steps.now.directory.now.people }
     requires start { IsFoundAt chains.now.any.items user (Some index) }
     ensures { IfOk result (λ way. (least : TheLevel) → ChainsLead steps.now target least chains.now
@@ -99,7 +99,7 @@ fn root_of(
     chains: &Chains,
     user: usize,
 ) -> Result<Option<Root>, AllocError>
-    requires chains { AreChains (length steps.now.directory.now.people) chains.now }
+    requires chains { AreChains steps.now chains.now }
     requires known { user < length steps.now.directory.now.people }
     ensures { IfOk result (λ root. (least : TheLevel)
         → ChainsLead steps.now target least chains.now

@@ -1,28 +1,32 @@
 //! The search for the states that lead to a target: back from the target, level by level.
 ghost use Rattle.std.specs.Prelude.{◌≡◌, ◌<◌, ◌+◌, ◌++◌, ◌==◌, [], IfOk, OnOk, IsTrue, All, filter, length, map, not, true};
+ghost use Rattle.std.specs.Prelude.{None, Some, false};
 ghost use Rattle.review_roots.specs.Sought.{any_steps, free_steps, steps_of, unasked_steps};
 ghost use Rattle.review_roots.specs.Body.Candidates.{states_of};
-ghost use Rattle.review_roots.specs.Body.Found.{AreChains, AreFound, HaveNoPath, IsCandidate, IsSearch, IsStartOf};
-ghost use Rattle.review_roots.specs.Body.Found.{found_by, found_there, is_left, kept_steps, reaches};
+ghost use Rattle.review_roots.specs.Body.Found.{AreChains, AreFound, AreGiven, HaveNoChain, HaveNoPath, IsCandidate, IsSearch};
+ghost use Rattle.review_roots.specs.Body.Found.{IsStartOf, found_by, found_there, is_left, kept_steps, may_start, reaches};
 ghost use Rattle.review_roots.specs.Body.Towards.{IsToward};
 ghost use Rattle.review_roots.specs.Ranks.{is_at_least};
+ghost use Rattle.review_roots.specs.Ways.{step_on};
+ghost use Rattle.review_roots.specs.declared.given.Given.{Given as TheGiven};
 
 use crate::Level;
 use crate::candidate::Candidate;
-use crate::given::Counted;
+use crate::given::{Counted, Given, NOTHING};
 use crate::host::HostSteps;
 use crate::starts::starts_of;
 use crate::state::State;
 use crate::toward::Toward;
 use std::alloc::{AllocError, Global};
 
-/// A state from which a chain of steps leads to the target: the level of the chain, and the index of the found state to
-/// which its first step leads, or none if the state is at the target.
+/// A state from which a chain of steps leads to the target: the level of the chain; the index of the found state to which its first
+/// step leads, or none if the state is at the target; and what that step gives.
 #[derive(Clone, Copy, Debug, PartialEq, Eq)]
 pub(crate) struct Found {
     pub(crate) state: State,
     pub(crate) level: Level,
     pub(crate) next: Option<usize>,
+    pub(crate) given: Given,
 }
 
 /// What is sought: the steps to the target that count.
@@ -53,20 +57,32 @@ struct Aim {
     counted: Counted,
 }
 
-// Whether the step of the candidate to the state has the level or a better one.
-fn reaches(steps: &HostSteps<'_, '_>, aim: Aim, toward: &Toward, candidate: &Candidate) -> bool
+// Returns what the step of the candidate to the state gives, if it has the level or a better one.
+fn reached(
+    steps: &HostSteps<'_, '_>,
+    aim: Aim,
+    toward: &Toward,
+    candidate: &Candidate,
+) -> Option<Given>
     requires level { IsTrue (is_at_least steps.now.least aim.level) }
     requires candidate { IsCandidate steps.now candidate.now }
     requires state { toward.now.state ≡ aim.state }
     requires toward { IsToward steps.now.checked.now steps.now.directory.now steps.now.groups.now
         steps.now.blocks.now toward.now.state toward.now }
-    ensures { result ≡ reaches steps.now aim candidate.now }
+    ensures given { (given : TheGiven) → result ≡ Some given
+        → (reaches steps.now aim candidate.now ≡ true)
+        × (given ≡ step_on steps.now candidate.now.state aim.state) }
+    ensures none { result ≡ None → reaches steps.now aim candidate.now ≡ false }
 {
     if steps.is_barred(candidate, toward) {
-        return false;
+        return None;
     }
     let given = steps.step_toward(candidate, toward);
-    given.level_for(aim.counted).is_at_least(aim.level)
+    if given.level_for(aim.counted).is_at_least(aim.level) {
+        Some(given)
+    } else {
+        None
+    }
 }
 
 // Moves the candidates with a step to the aim to those that are found, and returns the others.
@@ -86,18 +102,19 @@ fn draw<'c>(
     ensures kept { IfOk result (λ kept. map (λ c. c.now) kept.items
         ≡ filter (λ c. not (reaches steps.now aim c)) (map (λ c. c.now) left.now)) }
     ensures found { OnOk result (found.new.items ≡ found.old.items
-        ++ map (found_by aim) (filter (reaches steps.now aim) (map (λ c. c.now) left.now))) }
+        ++ map (found_by steps.now aim)
+        (filter (reaches steps.now aim) (map (λ c. c.now) left.now))) }
 {
     let mut kept = Vec::new(alloc);
     for candidate in left {
-        if reaches(steps, aim, toward, candidate) {
-            found.push(Found {
+        match reached(steps, aim, toward, candidate) {
+            Some(given) => found.push(Found {
                 state: candidate.state,
                 level: aim.level,
                 next: Some(aim.index),
-            })?;
-        } else {
-            kept.push(*candidate)?;
+                given,
+            })?,
+            None => kept.push(*candidate)?,
         }
     }
     Ok(kept)
@@ -126,7 +143,8 @@ fn draw_to<'c>(
     ensures kept { IfOk result (λ kept. map (λ c. c.now) kept.items
         ≡ filter (λ c. not (reaches steps.now aim c)) (map (λ c. c.now) left.now)) }
     ensures found { OnOk result (found.new.items ≡ found.old.items
-        ++ map (found_by aim) (filter (reaches steps.now aim) (map (λ c. c.now) left.now))) }
+        ++ map (found_by steps.now aim)
+        (filter (reaches steps.now aim) (map (λ c. c.now) left.now))) }
 {
     if is_none(left) {
         return Ok(Vec::new(alloc));
@@ -153,10 +171,12 @@ fn draw_alone<'c>(
 ) -> Result<Vec<&'c Candidate>, AllocError>
     requires inside { index < length found.now.items }
     requires candidates { All (IsCandidate steps.now) (map (λ c. c.now) left.items) }
+    requires given { AreGiven steps.now found.now.items }
     requires search { IsSearch (kept_steps steps.now sought) steps.now.least level
         found.now.items (states_of (map (λ c. c.now) left.items)) }
     ensures candidates { IfOk result (λ rest. All (IsCandidate steps.now)
         (map (λ c. c.now) rest.items)) }
+    ensures given { OnOk result (AreGiven steps.now found.new.items) }
     ensures search { IfOk result (λ rest. IsSearch (kept_steps steps.now sought)
         steps.now.least level found.new.items (states_of (map (λ c. c.now) rest.items))) }
     ensures moved { IfOk result (λ rest. length rest.items + length found.new.items
@@ -187,10 +207,12 @@ fn spread_alone<'c>(
     found: &mut Vec<Found>,
 ) -> Result<Vec<&'c Candidate>, AllocError>
     requires candidates { All (IsCandidate steps.now) (map (λ c. c.now) left.items) }
+    requires given { AreGiven steps.now found.now.items }
     requires search { IsSearch (kept_steps steps.now sought) steps.now.least level
         found.now.items (states_of (map (λ c. c.now) left.items)) }
     ensures candidates { IfOk result (λ rest. All (IsCandidate steps.now)
         (map (λ c. c.now) rest.items)) }
+    ensures given { OnOk result (AreGiven steps.now found.new.items) }
     ensures search { IfOk result (λ rest. IsSearch (kept_steps steps.now sought)
         steps.now.least level found.new.items (states_of (map (λ c. c.now) rest.items))) }
 {
@@ -213,10 +235,12 @@ fn spread<'c>(
     found: &mut Vec<Found>,
 ) -> Result<Vec<&'c Candidate>, AllocError>
     requires candidates { All (IsCandidate steps.now) (map (λ c. c.now) left.items) }
+    requires given { AreGiven steps.now found.old.items }
     requires search { IsSearch (kept_steps steps.now sought) steps.now.least level
         found.old.items (states_of (map (λ c. c.now) left.items)) }
     ensures candidates { IfOk result (λ rest. All (IsCandidate steps.now)
         (map (λ c. c.now) rest.items)) }
+    ensures given { OnOk result (AreGiven steps.now found.new.items) }
     ensures search { IfOk result (λ rest. IsSearch (kept_steps steps.now sought)
         steps.now.least level found.new.items (states_of (map (λ c. c.now) rest.items))) }
     ensures done { IfOk result (λ rest. HaveNoPath (kept_steps steps.now sought) level
@@ -254,32 +278,51 @@ fn found_at(
                 state: *state,
                 level: Level::All,
                 next: None,
+                given: NOTHING,
             })?;
         }
     }
     Ok(found)
 }
 
-// Whether the candidate is left: it is not the target, a block on the host that raises lists it, and one of its steps that count may
-// have the least level.
-fn is_left(steps: &HostSteps<'_, '_>, sought: Sought, candidate: &Candidate) -> bool
-    ensures { result ≡ is_left steps.now sought candidate.now }
+// Whether a chain may begin with the state, where each user that has a chain has a start: the state has an added group, or a start.
+fn may_start(starts: &[Option<usize>], state: State) -> bool
+    ensures { result ≡ may_start starts.now state }
 {
-    steps.is_heard(sought.target, candidate) && steps.may_count(candidate, sought.counted)
+    match starts.get(state.user) {
+        Some(None) => state.added.is_some(),
+        _ => true,
+    }
 }
 
-// Returns the candidates of which a step that counts may have the least level, but for the target.
+// Whether the candidate is left: a chain may begin with it, it is not the target, a block on the host that raises lists it, and one of
+// its steps that count may have the least level. The last is not looked up where no group may be added: few are left then.
+fn is_left(
+    steps: &HostSteps<'_, '_>,
+    sought: Sought,
+    starts: &[Option<usize>],
+    candidate: &Candidate,
+) -> bool
+    ensures { result ≡ is_left steps.now sought starts.now candidate.now }
+{
+    may_start(starts, candidate.state)
+        && steps.is_heard(sought.target, candidate)
+        && (steps.groups.len() == 0 || steps.may_count(candidate, sought.counted))
+}
+
+// Returns the candidates with which a chain may begin, and of which a step that counts may have the least level, but for the target.
 fn heard<'r>(
     alloc: Global,
     steps: &HostSteps<'r, '_>,
     sought: Sought,
+    starts: &[Option<usize>],
 ) -> Result<Vec<&'r Candidate>, AllocError>
     ensures { IfOk result (λ left. map (λ c. c.now) left.items
-        ≡ filter (is_left steps.now sought) steps.now.candidates.now) }
+        ≡ filter (is_left steps.now sought starts.now) steps.now.candidates.now) }
 {
     let mut left = Vec::new(alloc);
     for candidate in steps.candidates {
-        if is_left(steps, sought, candidate) {
+        if is_left(steps, sought, starts, candidate) {
             left.push(candidate)?;
         }
     }
@@ -294,9 +337,11 @@ fn search_levels(
     left: Vec<&Candidate>,
     found: &mut Vec<Found>,
 ) -> Result<(), AllocError>
-    requires { IsStartOf steps.now sought found.old.items (map (λ c. c.now) left.items) }
-    ensures { OnOk result (AreFound (kept_steps steps.now sought) steps.now.states.now
+    requires start { IsStartOf steps.now sought found.old.items (map (λ c. c.now) left.items) }
+    requires given { AreGiven steps.now found.old.items }
+    ensures found { OnOk result (AreFound (kept_steps steps.now sought) steps.now.states.now
         steps.now.least found.new.items) }
+    ensures given { OnOk result (AreGiven steps.now found.new.items) }
 {
     let left = spread(alloc, steps, sought, Level::All, left, found)?;
     match steps.least {
@@ -314,17 +359,20 @@ fn search_levels(
 }
 
 // Returns the states from which a chain of the steps that count, of the least level or a better one, leads to the target, each
-// with the best level of such a chain.
+// with the best level of such a chain. A user whose start is none is not looked at.
 fn found_of(
     alloc: Global,
     steps: &HostSteps<'_, '_>,
     sought: Sought,
+    starts: &[Option<usize>],
 ) -> Result<Vec<Found>, AllocError>
-    ensures { IfOk result (λ found. AreFound (steps_of steps.now sought) steps.now.states.now
+    requires starts { HaveNoChain steps.now sought.target starts.now }
+    ensures found { IfOk result (λ found. AreFound (steps_of steps.now sought) steps.now.states.now
         steps.now.least found.items) }
+    ensures given { IfOk result (λ found. AreGiven steps.now found.items) }
 {
     let mut found = found_at(alloc, steps, sought.target)?;
-    let left = heard(alloc, steps, sought)?;
+    let left = heard(alloc, steps, sought, starts)?;
     search_levels(alloc, steps, sought, left, &mut found)?;
     Ok(found)
 }
@@ -344,8 +392,7 @@ pub(crate) fn search(
         steps.now.states.now steps.now.least chains.unasked.items) }
     ensures free { IfOk result (λ chains. AreFound (free_steps steps.now target)
         steps.now.states.now steps.now.least chains.free.items) }
-    ensures chains { IfOk result (λ chains. AreChains (length steps.now.directory.now.people)
-        chains) }
+    ensures chains { IfOk result (λ chains. AreChains steps.now chains) }
 {
     let any = found_of(
         alloc,
@@ -354,7 +401,10 @@ pub(crate) fn search(
             target,
             counted: Counted::Any,
         },
+        &[],
     )?;
+    let users = steps.directory.people().len();
+    let any_starts = starts_of(alloc, users, &any)?;
     let unasked = found_of(
         alloc,
         steps,
@@ -362,6 +412,7 @@ pub(crate) fn search(
             target,
             counted: Counted::Unasked,
         },
+        &any_starts,
     )?;
     let free = found_of(
         alloc,
@@ -370,9 +421,8 @@ pub(crate) fn search(
             target,
             counted: Counted::Free,
         },
+        &any_starts,
     )?;
-    let users = steps.directory.people().len();
-    let any_starts = starts_of(alloc, users, &any)?;
     let unasked_starts = starts_of(alloc, users, &unasked)?;
     let free_starts = starts_of(alloc, users, &free)?;
     Ok(Chains {

@@ -1,5 +1,5 @@
 //! What the steps of users on one host give.
-ghost use Rattle.std.specs.Prelude.{◌≡◌, ◌&&◌, IfOk, None, Some, false, fold, true, flat_map, option_copied, slice_get};
+ghost use Rattle.std.specs.Prelude.{◌≡◌, ◌≤◌, ◌&&◌, IfOk, None, Some, drop, false, fold, length, true, option_copied, slice_get};
 ghost use Rattle.std.specs.Borrow.{Bor};
 ghost use Rattle.std.specs.List.{list_any, slice_index_or};
 ghost use Rattle.sudo_verdict.specs.Questions.{question_as};
@@ -9,6 +9,7 @@ ghost use Rattle.review_roots.specs.Blocks.{with_rows};
 ghost use Rattle.review_roots.specs.Body.Candidates as spec;
 ghost use Rattle.review_roots.specs.Body.Found.{IsCandidate};
 ghost use Rattle.review_roots.specs.Body.May as most;
+ghost use Rattle.review_roots.specs.Body.Settled.{given_at, settles_at, settles_of};
 ghost use Rattle.review_roots.specs.Body.Towards.{IsToward};
 ghost use Rattle.review_roots.specs.Ranks.{is_at_least};
 ghost use Rattle.review_roots.specs.States.{level_for, person_of, step_given};
@@ -151,14 +152,19 @@ impl<'r, 'a> HostSteps<'r, 'a> {
         may
     }
 
-    /// Whether a step of the candidate that counts may have the least level.
+    /// Whether a step of the candidate that counts may have the least level. Of all steps that is not looked up: a block that raises
+    /// and lists the candidate nearly always has it.
     pub(crate) fn may_count(&self, candidate: &Candidate, counted: Counted) -> bool
         ensures { result ≡ most.may_count self.now.on.items self.now.blocks.now self.now.least
             counted candidate.now.listed.items }
     {
-        self.may_give(candidate)
-            .level_for(counted)
-            .is_at_least(self.least)
+        match counted {
+            Counted::Any => true,
+            Counted::Unasked | Counted::Free => self
+                .may_give(candidate)
+                .level_for(counted)
+                .is_at_least(self.least),
+        }
     }
 
     // Returns what is given with the rows of the block at an index, if it is for the host and its runas allows the question.
@@ -242,18 +248,62 @@ impl<'r, 'a> HostSteps<'r, 'a> {
         }
     }
 
-    // Returns what the rows of the blocks for the host give that list the user and allow the target.
-    fn chosen(&self, candidate: &Candidate, toward: &Toward) -> Given
-        ensures { result ≡ with_rows nothing (flat_map (spec.part_at (λ i b. spec.both_at
-            self.now.on.items toward.now.allowed.items i) self.now.blocks.now)
-            candidate.now.listed.items) }
+    // Returns what the rows of the blocks at these indices give that are for the host and allow the target.
+    fn chosen_of(&self, listed: &[usize], toward: &Toward) -> Given
+        ensures { result ≡ given_at self.now.on.items toward.now.allowed.items self.now.blocks.now
+            listed.now }
     {
         let mut given = NOTHING;
-        for index in &candidate.listed {
+        for index in listed {
             let stands = both_at(&self.on, &toward.allowed, *index);
             given = self.with_block_if(given, *index, stands);
         }
         given
+    }
+
+    // Whether there is a block at the index, and its rows settle what is given.
+    fn settles(&self, index: usize) -> bool
+        ensures { result ≡ settles_of (slice_get self.now.blocks.now index) }
+    {
+        match self.blocks.get(index) {
+            Some(block) => block.effect.settles(),
+            None => false,
+        }
+    }
+
+    // Whether the block at the index is for the host, allows the target, and settles what is given.
+    fn settles_at(&self, toward: &Toward, index: usize) -> bool
+        ensures { result ≡ settles_at self.now.on.items toward.now.allowed.items
+            self.now.blocks.now index }
+    {
+        both_at(&self.on, &toward.allowed, index) && self.settles(index)
+    }
+
+    // Returns where the last of these blocks is that settles what is given, or the beginning: from there on they give what all give.
+    fn settled_from(&self, listed: &[usize], toward: &Toward) -> usize
+        ensures inside { result ≤ length listed.now }
+        ensures same { given_at self.now.on.items toward.now.allowed.items self.now.blocks.now
+            (drop result listed.now) ≡ given_at self.now.on.items toward.now.allowed.items
+            self.now.blocks.now listed.now }
+    {
+        let mut at = listed.len();
+        while at > 0 {
+            at -= 1;
+            if self.settles_at(toward, listed[at]) {
+                return at;
+            }
+        }
+        0
+    }
+
+    // Returns what the rows of the blocks for the host give that list the user and allow the target.
+    fn chosen(&self, candidate: &Candidate, toward: &Toward) -> Given
+        ensures { result ≡ given_at self.now.on.items toward.now.allowed.items self.now.blocks.now
+            candidate.now.listed.items }
+    {
+        let listed = candidate.listed.as_slice();
+        let from = self.settled_from(listed, toward);
+        self.chosen_of(&listed[from..], toward)
     }
 
     // Whether a block for the host that raises lists the user and allows the target.

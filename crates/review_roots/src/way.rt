@@ -1,15 +1,13 @@
 //! A chain of steps to a target, with the row that allows its first step, and whose passwords it asks for.
-ghost use Rattle.std.specs.Prelude.{◌≡◌, ◌<◌, ◌∷◌, All, IfOk, Some, length, slice_get};
+ghost use Rattle.std.specs.Prelude.{◌≡◌, ◌<◌, All, IfOk, Some, length, slice_get};
 ghost use Rattle.std.specs.List.{Contains};
 ghost use Rattle.review_roots.specs.Sought.{steps_of};
-ghost use Rattle.review_roots.specs.Chains.{LeadsAlong, Steps as TheSteps};
-ghost use Rattle.review_roots.specs.Body.Found.{AreFound, AreLinked, PointBack, found_states};
-ghost use Rattle.review_roots.specs.Ways.{IsChain, password_along, password_name, step_password, worse};
-ghost use Rattle.review_roots.specs.Body.Passing.{AreAsked};
+ghost use Rattle.review_roots.specs.Body.Found.{AreFound, AreGiven, PointBack, found_states};
+ghost use Rattle.review_roots.specs.Body.Passing.{HasPassword, HasRow, LeadsWhole};
+ghost use Rattle.review_roots.specs.Ways.{IsChain, password_name, step_password, worse};
 ghost use Rattle.review_roots.specs.declared.level.Level.{Level as TheLevel};
 ghost use Rattle.review_roots.specs.declared.search.Found.{Found as TheFound};
 ghost use Rattle.review_roots.specs.declared.search.Sought.{Sought as TheSought};
-ghost use Rattle.review_roots.specs.declared.state.State.{State as TheState};
 
 use crate::Level;
 use crate::given::{AllowingRow, Given};
@@ -71,24 +69,6 @@ impl Password {
     }
 }
 
-// Returns the states to which the steps of a found state lead.
-fn chain_of(alloc: Global, found: &[Found], index: usize) -> Result<Vec<State>, AllocError>
-    requires back { PointBack found.now }
-    requires inside { index < length found.now }
-    ensures leads { IfOk result (λ chain. (g : TheSteps TheState) (f : TheFound)
-        → AreLinked g found.now → slice_get found.now index ≡ Some f
-        → LeadsAlong g f.level f.state chain.items) }
-    ensures inside { IfOk result (λ chain. All (Contains (found_states found.now)) chain.items) }
-{
-    let mut chain = Vec::new(alloc);
-    let mut at = index;
-    while let Some(next) = found[at].next {
-        chain.push(found[next].state)?;
-        at = next;
-    }
-    Ok(chain)
-}
-
 // Returns whose password the step of a chain asks for that begins with a user.
 fn step_password(given: Given, user: usize, from: State) -> Password
     ensures { result ≡ step_password given user from }
@@ -104,68 +84,39 @@ fn step_password(given: Given, user: usize, from: State) -> Password
     }
 }
 
-// Returns whose passwords the steps of a chain from a state ask for, in a chain that begins with the user.
-fn password_along(
-    alloc: Global,
-    steps: &HostSteps<'_, '_>,
-    user: usize,
-    start: State,
-    chain: &[State],
-) -> Result<Password, AllocError>
-    ensures { IfOk result (λ password. password
-        ≡ password_along steps.now user start chain.now) }
-{
-    let mut password = Password::None;
-    let mut from = start;
-    for to in chain {
-        let given = steps.between(alloc, from, *to)?;
-        password = password.worse(step_password(given, user, from));
-        from = *to;
-    }
-    Ok(password)
-}
-
-// The last row that allows the first step of a chain, and whose passwords its steps ask for.
-#[derive(Clone, Copy)]
-struct Asked {
-    by: Option<AllowingRow>,
+// The states to which the steps of a chain lead, and whose passwords they ask for.
+#[derive(Drop)]
+struct Traced {
+    chain: Vec<State>,
     password: Password,
 }
 
-// Returns what the steps of a chain ask for, from its first step and those behind it.
-fn asked_from(
-    alloc: Global,
-    steps: &HostSteps<'_, '_>,
-    start: State,
-    to: State,
-    behind: &[State],
-) -> Result<Asked, AllocError>
-    ensures { IfOk result (λ asked. AreAsked steps.now start (to ∷ behind.now) asked) }
+// Returns the states to which the steps of a found state lead, and whose passwords they ask for, in a chain that begins with the user.
+fn trace(alloc: Global, found: &[Found], index: usize, user: usize) -> Result<Traced, AllocError>
+    requires back { PointBack found.now }
+    requires inside { index < length found.now }
+    ensures leads { IfOk result (λ traced. LeadsWhole found.now index traced.chain.items) }
+    ensures inside { IfOk result (λ traced. All (Contains (found_states found.now))
+        traced.chain.items) }
+    ensures row { IfOk result (λ traced. HasRow found.now index traced.chain.items) }
+    ensures password { IfOk result (λ traced. HasPassword found.now user index traced.chain.items
+        traced.password) }
 {
-    let given = steps.between(alloc, start, to)?;
-    let password = password_along(alloc, steps, start.user, to, behind)?;
-    Ok(Asked {
-        by: given.by,
-        password: step_password(given, start.user, start).worse(password),
-    })
-}
-
-// Returns what the steps of a chain ask for.
-fn asked_along(
-    alloc: Global,
-    steps: &HostSteps<'_, '_>,
-    start: State,
-    chain: &[State],
-) -> Result<Asked, AllocError>
-    ensures { IfOk result (λ asked. AreAsked steps.now start chain.now asked) }
-{
-    match chain {
-        [] => Ok(Asked {
-            by: None,
-            password: Password::None,
-        }),
-        [to, behind @ ..] => asked_from(alloc, steps, start, *to, behind),
+    let mut chain = Vec::new(alloc);
+    let mut password = Password::None;
+    let mut at = index;
+    while let Some(next) = found[at].next {
+        let Found {
+            state,
+            level: _,
+            next: _,
+            given,
+        } = found[at];
+        password = password.worse(step_password(given, user, state));
+        chain.push(found[next].state)?;
+        at = next;
     }
+    Ok(Traced { chain, password })
 }
 
 /// Returns the chain of a found state. Returns `AllocError` if allocation fails.
@@ -176,6 +127,7 @@ pub(crate) fn way_of(
     index: usize,
 ) -> Result<Way, AllocError>
     requires back { PointBack found.now }
+    requires given { AreGiven steps.now found.now }
     requires inside { index < length found.now }
     ensures { IfOk result (λ way. (q : TheSought) (least : TheLevel) (f : TheFound)
         → AreFound (steps_of steps.now q) steps.now.states.now least found.now
@@ -186,13 +138,13 @@ pub(crate) fn way_of(
         state,
         level,
         next: _,
+        given,
     } = found[index];
-    let chain = chain_of(alloc, found, index)?;
-    let asked = asked_along(alloc, steps, state, &chain)?;
+    let Traced { chain, password } = trace(alloc, found, index, state.user)?;
     Ok(Way {
         level,
         chain,
-        by: asked.by,
-        password: asked.password,
+        by: given.by,
+        password,
     })
 }

@@ -1,9 +1,10 @@
 -- The states that are found to lead to a target, and what is known of those that are left.
-use Rattle.std.specs.Prelude.{◌≡◌, ◌<◌, ◌⊎◌, ◌&&◌, ◌==◌, ℕ, Bool, true, false, not, if◌then◌else◌, is_some, List, All, map, slice_get}
+use Rattle.std.specs.Prelude.{◌≡◌, ◌<◌, ◌⊎◌, ◌&&◌, ◌||◌, ◌==◌, ℕ, Bool, true, false, not, if◌then◌else◌, is_some, List, All, map, slice_get}
 use Rattle.std.specs.Prelude.{Option, Some, None, get_or, length, nat_lt, set, take}
 use Rattle.std.specs.List.{Contains}
 use Rattle.review_roots.specs.declared.level.Level.{Level}
 use Rattle.review_roots.specs.declared.level.Level.TheVariants as level
+use Rattle.review_roots.specs.declared.given.Counted.{Counted}
 use Rattle.review_roots.specs.declared.host.HostSteps.{HostSteps}
 use Rattle.review_roots.specs.declared.candidate.Candidate.{Candidate}
 use Rattle.review_roots.specs.declared.search.Aim.{Aim}
@@ -16,16 +17,39 @@ use Rattle.review_roots.specs.Body.May.{may_count}
 use Rattle.review_roots.specs.Sought.{any_steps, free_steps, steps_of, unasked_steps}
 use Rattle.review_roots.specs.Chains.{Steps, HasPath, HasNoPath}
 use Rattle.review_roots.specs.Ranks.{rank, is_at_least}
-use Rattle.review_roots.specs.States.{level_for, step_given}
+use Rattle.review_roots.specs.States.{level_for, state_with, step_given}
+use Rattle.review_roots.specs.Asked.{nothing}
+use Rattle.review_roots.specs.Ways.{step_on}
 
 -- the steps on the host that are sought, between the states that are kept
 abbrev pub kept_steps : HostSteps → Sought → Steps State
 kept_steps h q = record { states = h.states.now; level = (steps_of h q).level; goal = (steps_of h q).goal }
 
--- a block on the host that raises lists the candidate, which is not the target, and a step of it that counts may have the least level
-abbrev pub is_left : HostSteps → Sought → Candidate → Bool
-is_left h q c =
-    is_heard h.on.items q.target c && may_count h.on.items h.blocks.now h.least q.counted c.listed.items
+-- there is no start at the index; or there is one, or the other holds
+abbrev pub starts_or : Option (Option ℕ) → Bool → Bool
+starts_or None b = true
+starts_or (Some None) b = b
+starts_or (Some (Some i)) b = true
+
+-- the state has an added group, or its user's start is not none
+abbrev pub may_start : List (Option ℕ) → State → Bool
+may_start starts s = starts_or (slice_get starts s.user) (is_some s.added)
+
+-- no chain of any steps, of the least level or a better one, leads from a user whose start is none
+abbrev pub HaveNoChain : HostSteps → ℕ → List (Option ℕ) → Type 0
+HaveNoChain h target starts =
+    (user : ℕ) → slice_get starts user ≡ Some None → HasNoPath (any_steps h target) h.least (state_with None user)
+
+-- no group may be added, or a step of the candidate that counts may have the least level
+abbrev pub is_counted : HostSteps → Counted → Candidate → Bool
+is_counted h k c = (length h.groups.now == 0) || may_count h.on.items h.blocks.now h.least k c.listed.items
+
+-- a chain may begin with the candidate; a block on the host that raises lists it, which is not the target; and where groups may be
+-- added, a step of it that counts may have the least level
+abbrev pub is_left : HostSteps → Sought → List (Option ℕ) → Candidate → Bool
+is_left h q starts c =
+    may_start starts c.state
+    && (is_heard h.on.items q.target c && is_counted h q.counted c)
 
 -- the found state leads to the goal by a chain of its level, and by none of a better level
 pub record IsFound (g : Steps State) (f : Found) : Type 0 where
@@ -51,6 +75,15 @@ AreLinked g found = (i : ℕ) (f : Found) → slice_get found i ≡ Some f → I
 -- each found state's first step leads to one that was found before
 abbrev pub PointBack : List Found → Type 0
 PointBack found = (i next : ℕ) (f : Found) → slice_get found i ≡ Some f → f.next ≡ Some next → next < i
+
+-- the found state has what its first step gives; at the goal, nothing
+abbrev pub IsGiven : HostSteps → List Found → Found → Option ℕ → Type 0
+IsGiven h found f None = f.given ≡ nothing
+IsGiven h found f (Some next) =
+    (t : Found) × ((slice_get found next ≡ Some t) × (f.given ≡ step_on h f.state t.state))
+
+abbrev pub AreGiven : HostSteps → List Found → Type 0
+AreGiven h found = (i : ℕ) (f : Found) → slice_get found i ≡ Some f → IsGiven h found f f.next
 
 abbrev pub found_states : List Found → List State
 found_states found = map (λ f. f.state) found
@@ -91,17 +124,20 @@ AreStartsBefore found n starts = (user : ℕ) → user < length starts → IsFou
 abbrev pub with_start : List (Option ℕ) → State → ℕ → List (Option ℕ)
 with_start starts s i = if not (is_some s.added) && nat_lt s.user (length starts) then set starts s.user (Some i) else starts
 
--- the first steps of each list lead back, and each has an index for each user
-pub record AreChains (users : ℕ) (c : Chains) : Type 0 where
+-- the first steps of each list lead back, and what they give is known; and each list has an index for each user
+pub record AreChains (h : HostSteps) (c : Chains) : Type 0 where
   pub any : PointBack c.any.items
+  pub any_given : AreGiven h c.any.items
   pub any_starts : AreStarts c.any.items c.any_starts.items
-  pub any_users : length c.any_starts.items ≡ users
+  pub any_users : length c.any_starts.items ≡ length h.directory.now.people
   pub unasked : PointBack c.unasked.items
+  pub unasked_given : AreGiven h c.unasked.items
   pub unasked_starts : AreStarts c.unasked.items c.unasked_starts.items
-  pub unasked_users : length c.unasked_starts.items ≡ users
+  pub unasked_users : length c.unasked_starts.items ≡ length h.directory.now.people
   pub free : PointBack c.free.items
+  pub free_given : AreGiven h c.free.items
   pub free_starts : AreStarts c.free.items c.free_starts.items
-  pub free_users : length c.free_starts.items ≡ users
+  pub free_users : length c.free_starts.items ≡ length h.directory.now.people
 
 -- the chains to a target, by any steps, by steps that may go without a password, and by steps that ask for none
 pub record ChainsLead (h : HostSteps) (target : ℕ) (l : Level) (c : Chains) : Type 0 where
@@ -156,8 +192,8 @@ abbrev pub reaches : HostSteps → Aim → Candidate → Bool
 reaches h aim c =
     is_at_least aim.level (level_for aim.counted (step_given h.checked.now h.directory.now h.host.now h.groups.now c.state aim.state))
 
-abbrev pub found_by : Aim → Candidate → Found
-found_by aim c = record { state = c.state; level = aim.level; next = Some aim.index }
+abbrev pub found_by : HostSteps → Aim → Candidate → Found
+found_by h aim c = record { state = c.state; level = aim.level; next = Some aim.index; given = step_on h c.state aim.state }
 
 -- the state is not at the goal, and no step of the least level, or of a better one, leads from it
 abbrev pub IsMute : Steps State → Level → State → Type 0
@@ -166,7 +202,7 @@ IsMute g least s =
 
 -- a state at the goal
 abbrev pub found_there : State → Found
-found_there s = record { state = s; level = level.All; next = None }
+found_there s = record { state = s; level = level.All; next = None; given = nothing }
 
 -- what the search begins with, among the kept states: those at the goal, and those that are left
 pub record IsStartOf (h : HostSteps) (q : Sought) (found : List Found) (left : List Candidate) : Type 0 where
@@ -175,5 +211,5 @@ pub record IsStartOf (h : HostSteps) (q : Sought) (found : List Found) (left : L
   pub candidates : All (IsCandidate h) left
   pub inside : All (λ c. Contains (kept_steps h q).states c.state) left
   pub away : All (λ c. (kept_steps h q).goal c.state ≡ false) left
-  pub covered : All (λ s. Contains (found_states found) s ⊎ (Contains (states_of left) s ⊎ IsMute (kept_steps h q) h.least s))
+  pub covered : All (λ s. Contains (found_states found) s ⊎ (Contains (states_of left) s ⊎ IsStuck (kept_steps h q) h.least s))
       (kept_steps h q).states

@@ -46,5 +46,11 @@ may_for counted.Unasked m = m.unasked
 may_for counted.Free m = if m.free then m.level else level.None
 
 -- a step of a user that counts may have the least level, whichever of the blocks for the host stand that list the user
+abbrev pub may_reach : List Bool → List Block → Level → Counted → List ℕ → Bool
+may_reach on bs least k listed = is_at_least least (may_for k (fold (may_at on bs) may_nothing listed))
+
+-- the same, where that is not looked up if all steps count
 abbrev pub may_count : List Bool → List Block → Level → Counted → List ℕ → Bool
-may_count on bs least k listed = is_at_least least (may_for k (fold (may_at on bs) may_nothing listed))
+may_count on bs least counted.Any listed = true
+may_count on bs least counted.Unasked listed = may_reach on bs least counted.Unasked listed
+may_count on bs least counted.Free listed = may_reach on bs least counted.Free listed

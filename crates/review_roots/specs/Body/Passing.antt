@@ -1,11 +1,25 @@
--- What a chain asks for, as a program keeps it; only proofs of bodies need this definition.
-use Rattle.std.specs.Prelude.{◌≡◌, List}
+-- What a chain asks for, as a program finds it along what was found; only proofs of bodies need these definitions.
+use Rattle.std.specs.Prelude.{◌≡◌, ℕ, List, Some, slice_get}
 use Rattle.review_roots.specs.declared.host.HostSteps.{HostSteps}
+use Rattle.review_roots.specs.declared.search.Found.{Found}
 use Rattle.review_roots.specs.declared.state.State.{State}
-use Rattle.review_roots.specs.declared.way.Asked.{Asked}
+use Rattle.review_roots.specs.declared.way.Password.{Password}
+use Rattle.review_roots.specs.Body.Found.{AreGiven, AreLinked}
+use Rattle.review_roots.specs.Chains.{LeadsAlong, Steps}
 use Rattle.review_roots.specs.Ways.{first_row, password_along}
 
--- the last row that allows the first step of the chain, and whose passwords its steps ask for
-pub record AreAsked (h : HostSteps) (start : State) (chain : List State) (a : Asked) : Type 0 where
-  pub by : a.by ≡ first_row h start chain
-  pub password : a.password ≡ password_along h start.user start chain
+-- the chain leads from the found state at the index to the goal
+abbrev pub LeadsWhole : List Found → ℕ → List State → Type 0
+LeadsWhole found index chain =
+    (g : Steps State) (f : Found) → AreLinked g found → slice_get found index ≡ Some f → LeadsAlong g f.level f.state chain
+
+-- what the found state at the index is given has the last row that allows the first step of the chain
+abbrev pub HasRow : List Found → ℕ → List State → Type 0
+HasRow found index chain =
+    (h : HostSteps) (f : Found) → AreGiven h found → slice_get found index ≡ Some f → f.given.by ≡ first_row h f.state chain
+
+-- the password is the worst for which a step of the chain asks that begins with the user
+abbrev pub HasPassword : List Found → ℕ → ℕ → List State → Password → Type 0
+HasPassword found user index chain password =
+    (h : HostSteps) (f : Found) → AreGiven h found → slice_get found index ≡ Some f →
+    password ≡ password_along h user f.state chain

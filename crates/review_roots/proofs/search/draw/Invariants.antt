@@ -7,5 +7,5 @@ abbrev pub invariant-loop-candidate : goal.invariant-loop-candidate
 invariant-loop-candidate l = record {
   kept : map (λ c. c.now) l.kept.items ≡ filter (λ c. not (reaches l.steps l.aim c)) (map (λ c. c.now) (take l.candidate-index l.left));
   found : l.found.items ≡ l.initial.found.items
-      ++ map (found_by l.aim) (filter (reaches l.steps l.aim) (map (λ c. c.now) (take l.candidate-index l.left)));
+      ++ map (found_by l.steps l.aim) (filter (reaches l.steps l.aim) (map (λ c. c.now) (take l.candidate-index l.left)));
 }

@@ -4,7 +4,7 @@ use Rattle.std.proofs.lemmas.List.{length-map}
 use Rattle.review_roots.specs.declared.candidate.Candidate.{Candidate}
 use Rattle.review_roots.specs.Body.Candidates.{states_of}
 use Rattle.review_roots.specs.Body.Found.{IsCandidate, IsSearch, kept_steps}
-use Rattle.review_roots.proofs.DrawLemmas.{spread-search, spread-candidates, spread-length}
+use Rattle.review_roots.proofs.DrawLemmas.{spread-candidates, spread-given, spread-length, spread-search}
 use Rattle.review_roots.proofs.LoopLemmas.{there}
 use Rattle.review_roots.proofs.search.draw_alone.Goals as goal
 
@@ -35,6 +35,18 @@ returns-clause-search c =
     (states_of (map (λ c. c.now) xs))) (sym c.deref.ensures.value) c.requires.search in
     spread-search h c.args.sought c.args.level n t found c.draw_to.new.found.items cs kept at c.in_ok-rest.ensures.found
     c.in_ok-rest.ensures.kept search
+
+pub returns-clause-given : goal.returns-clause-given
+returns-clause-given c =
+    let h = c.args.steps.now in
+    let n = c.args.index in
+    let t = c.index.result.now in
+    let found = c.args.found.now.items in
+    let cs : List Candidate = map (λ c. c.now) c.deref.result.now in
+    let kept : List Candidate = map (λ c. c.now) c.in_ok-rest.rest.items in
+    let at : slice_get found n ≡ Some t = there found n t c.requires.inside ∙ ap Some (sym c.index.ensures) in
+    spread-given h c.args.sought c.args.level n t found c.draw_to.new.found.items cs kept at c.in_ok-rest.ensures.found
+    c.in_ok-rest.ensures.kept c.requires.given
 
 pub returns-clause-moved : goal.returns-clause-moved
 returns-clause-moved c =

@@ -5,4 +5,4 @@ use Rattle.review_roots.proofs.search.heard.Given as goal
 
 abbrev pub invariant-loop-candidate : goal.invariant-loop-candidate
 invariant-loop-candidate l = map (λ c. c.now) l.left.items
-    ≡ filter (is_left l.steps l.sought) (take l.candidate-index l.candidate-items)
+    ≡ filter (is_left l.steps l.sought l.starts) (take l.candidate-index l.candidate-items)

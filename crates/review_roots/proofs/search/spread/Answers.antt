@@ -4,7 +4,7 @@ use Rattle.std.proofs.lemmas.List.{length-map}
 use Rattle.review_roots.specs.declared.candidate.Candidate.{Candidate}
 use Rattle.review_roots.specs.Body.Candidates.{states_of}
 use Rattle.review_roots.specs.Body.Found.{IsCandidate, IsDrawn, IsSearch, kept_steps}
-use Rattle.review_roots.proofs.DrawLemmas.{spread-search, spread-drawn, spread-candidates, spread-length}
+use Rattle.review_roots.proofs.DrawLemmas.{spread-candidates, spread-drawn, spread-given, spread-length, spread-search}
 use Rattle.review_roots.proofs.LoopLemmas.{there}
 use Rattle.review_roots.proofs.SearchLemmas.{none-left}
 use Rattle.review_roots.proofs.search.spread.Goals as goal
@@ -31,6 +31,8 @@ loop-index-preserved c =
     record {
       candidates = spread-candidates h c.args.sought c.args.level n t found new cs kept at c.in_ok-left.ensures.found
           c.in_ok-left.ensures.kept candidates;
+      given = spread-given h c.args.sought c.args.level n t found new cs kept at c.in_ok-left.ensures.found c.in_ok-left.ensures.kept
+          c.loop-index.invariant.given;
       search = spread-search h c.args.sought c.args.level n t found new cs kept at c.in_ok-left.ensures.found c.in_ok-left.ensures.kept
           search;
       drawn = spread-drawn h c.args.sought c.args.level n t found new cs kept at c.in_ok-left.ensures.found c.in_ok-left.ensures.kept
