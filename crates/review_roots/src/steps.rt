@@ -17,6 +17,7 @@ ghost use Rattle.review_roots.specs.declared.candidate.Candidate.{Candidate as T
 ghost use Rattle.review_roots.specs.declared.given.Counted.{Counted as TheCounted};
 ghost use Rattle.review_roots.specs.declared.level.Level.{Level as TheLevel};
 
+use crate::Level;
 use crate::candidate::{Candidate, candidate_at, is_same_user};
 use crate::given::{Counted, Given, NOTHING};
 use crate::ground::Ground;
@@ -279,6 +280,17 @@ impl<'r, 'a> HostSteps<'r, 'a> {
         both_at(&self.on, &toward.allowed, index) && self.settles(index)
     }
 
+    // Returns before which index a block is sought that settles what is given: before none if listed commands count, since then few of
+    // the blocks that raise settle it.
+    fn settled_before(&self, listed: &[usize]) -> usize
+        ensures { result ≤ length listed.now }
+    {
+        match self.least {
+            Level::AllBut | Level::All => listed.len(),
+            Level::None | Level::Listed => 0,
+        }
+    }
+
     // Returns where the last of these blocks is that settles what is given, or the beginning: from there on they give what all give.
     fn settled_from(&self, listed: &[usize], toward: &Toward) -> usize
         ensures inside { result ≤ length listed.now }
@@ -286,7 +298,7 @@ impl<'r, 'a> HostSteps<'r, 'a> {
             (drop result listed.now) ≡ given_at self.now.on.items toward.now.allowed.items
             self.now.blocks.now listed.now }
     {
-        let mut at = listed.len();
+        let mut at = self.settled_before(listed);
         while at > 0 {
             at -= 1;
             if self.settles_at(toward, listed[at]) {
