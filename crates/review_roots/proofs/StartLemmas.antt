@@ -232,7 +232,8 @@ module _ (h : HostSteps) (q : Sought) where
       by_candidate s c inside at away true is false may true begins =
           inr (inr (subst (IsStuck g h.least) at (mute-stuck c.state
           (no-step-counts c (All-contains (IsCandidate h) h.candidates.now c h.covered.known inside)
-          (neither (length h.groups.now == 0) (may_count h.on.items h.blocks.now h.least q.counted c.listed.items) may).1
+          (neither ((length h.groups.now == 0) && is_at_least level.AllBut h.least)
+          (may_count h.on.items h.blocks.now h.least q.counted c.listed.items) may).1
           (ap g.goal at ∙ away)))))
       by_candidate s c inside at away false is k may true begins =
           inr (inr (subst (IsStuck g h.least) at (mute-stuck c.state

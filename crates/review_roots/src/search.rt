@@ -296,7 +296,8 @@ fn may_start(starts: &[Option<usize>], state: State) -> bool
 }
 
 // Whether the candidate is left: a chain may begin with it, it is not the target, a block on the host that raises lists it, and one of
-// its steps that count may have the least level. The last is not looked up where no group may be added: few are left then.
+// its steps that count may have the least level. The last is not looked up where few are left: where listed commands do not count, and
+// no group may be added.
 fn is_left(
     steps: &HostSteps<'_, '_>,
     sought: Sought,
@@ -307,7 +308,8 @@ fn is_left(
 {
     may_start(starts, candidate.state)
         && steps.is_heard(sought.target, candidate)
-        && (steps.groups.len() == 0 || steps.may_count(candidate, sought.counted))
+        && ((steps.groups.len() == 0 && steps.least.is_at_least(Level::AllBut))
+            || steps.may_count(candidate, sought.counted))
 }
 
 // Returns the candidates with which a chain may begin, and of which a step that counts may have the least level, but for the target.

@@ -40,12 +40,14 @@ abbrev pub HaveNoChain : HostSteps → ℕ → List (Option ℕ) → Type 0
 HaveNoChain h target starts =
     (user : ℕ) → slice_get starts user ≡ Some None → HasNoPath (any_steps h target) h.least (state_with None user)
 
--- no group may be added, or a step of the candidate that counts may have the least level
+-- no group may be added and listed commands do not count, or a step of the candidate that counts may have the least level
 abbrev pub is_counted : HostSteps → Counted → Candidate → Bool
-is_counted h k c = (length h.groups.now == 0) || may_count h.on.items h.blocks.now h.least k c.listed.items
+is_counted h k c =
+    ((length h.groups.now == 0) && is_at_least level.AllBut h.least)
+    || may_count h.on.items h.blocks.now h.least k c.listed.items
 
--- a chain may begin with the candidate; a block on the host that raises lists it, which is not the target; and where groups may be
--- added, a step of it that counts may have the least level
+-- a chain may begin with the candidate; a block on the host that raises lists it, which is not the target; and where many are left, a
+-- step of it that counts may have the least level
 abbrev pub is_left : HostSteps → Sought → List (Option ℕ) → Candidate → Bool
 is_left h q starts c =
     may_start starts c.state
