@@ -1,10 +1,11 @@
 -- The rows of the comparison for a user on a host.
-use Rattle.std.proofs.Common.{◌≡◌, ◌<◌, ◌+◌, ◌∙◌, ◌⊎◌, inl, inr, ℕ, zero, suc, true, ◌&&◌, All, List, [], ◌∷◌, ◌++◌}
-use Rattle.std.proofs.Common.{ap, arith, refl, sym, subst, get_or, length, take, Option, None, Some}
-use Rattle.std.specs.Prelude.{IsPermutation, ◌==◌, slice_index_or}
+use Rattle.std.proofs.Common.{◌≡◌, ◌<◌, ◌+◌, ◌∙◌, ◌⊎◌, inl, inr, ℕ, zero, suc, true, ◌&&◌, List, [], ◌∷◌, ◌++◌}
+use Rattle.std.proofs.Common.{ap, arith, refl, sym, subst, get_or, length, length-append, take, Option, None, Some}
+use Rattle.std.specs.Prelude.{◌==◌, slice_index_or}
 use Rattle.std.specs.List.{list_any}
 use Rattle.std.proofs.lemmas.Bool.{and_from, and_parts, eqb-true, or_left, or_right}
-use Rattle.std.proofs.lemmas.List.Sorted.{length_permutation, list_any-IsPermutation}
+use Rattle.std.proofs.lemmas.List.{get_or_append_left, get_or_push}
+use Rattle.std.proofs.lemmas.List.Sorted.{list_any-IsPermutation}
 use Rattle.std.proofs.lemmas.Map.Views.{Contains-from_any}
 use Rattle.sudo_verdict.specs.Questions.{Question}
 use Rattle.review_roots.proofs.ListSteps.{take-more}
@@ -17,18 +18,20 @@ use Rattle.review_compare.specs.declared.compared.Compared.TheVariants as compar
 use Rattle.review_compare.specs.declared.pair.Pair.{Pair}
 use Rattle.review_compare.specs.declared.row.Row.{Row}
 use Rattle.review_compare.specs.declared.spot.Spot.{Spot}
-use Rattle.review_compare.specs.Cells.{Decider, SaySame, deciders}
+use Rattle.review_compare.specs.Cells.{Decider, deciders}
 use Rattle.review_compare.specs.Differences.{Finds, FoundIf, IsDone, IsFound, SameIf, has_cell, question_at, same_number}
 use Rattle.review_compare.specs.Witnesses.{IsCompared}
 use Rattle.review_compare.specs.Body.AskClasses.{AreAsked, HaveAsk, IsAskClass, IsAskedWith, on_new, on_old}
 use Rattle.review_compare.specs.Body.Comparisons.{IsCopy}
-use Rattle.review_compare.specs.Body.Merged.{Absorbs, AddsFound, AreMerged, AreOrdered, IsOfSpot, IsOrdered, IsRowOf}
-use Rattle.review_compare.specs.Body.Progress.{IsOn, IsSpot, Progress, cell_at, question_of}
+use Rattle.review_compare.specs.Body.Classes.{AreRightIn, IsRightIn}
+use Rattle.review_compare.specs.Body.Merged.{Absorbs, AddsFound, AreMerged, AreOrdered, IsOnAmong, IsOrdered, IsRowOf, is_among}
+use Rattle.review_compare.specs.Body.Progress.{IsSpot, Progress, question_of}
 use Rattle.review_compare.proofs.AskLemmas.{asked-cases, asked-first, asked-last, classes-cases}
 use Rattle.review_compare.proofs.CellLemmas.{rows_say_same}
-use Rattle.review_compare.proofs.ClassLemmas.{or-false, same-self, single}
-use Rattle.review_compare.proofs.DifferenceLemmas.{all-added, nothing-added, numbers-same, spot-question, went-on}
+use Rattle.review_compare.proofs.ClassLemmas.{asked-here, or-false, same-self, single}
+use Rattle.review_compare.proofs.DifferenceLemmas.{all-added, nothing-added, numbers-same, went-on}
 use Rattle.review_compare.proofs.NearLemmas.{changed_by, compared-moved, near_new, near_old, pair-all, pair-near}
+use Rattle.review_compare.proofs.UnchangedLemmas.{less-or}
 
 -- ---- The cells of a row
 
@@ -47,37 +50,35 @@ contains-any q (y ∷ ys) (suc k) less is =
 one-number : (q g : Option ℕ) → list_any (same_number q) (g ∷ []) ≡ same_number q g
 one-number q g = or-false (same_number q g)
 
-row-has : (user host : ℕ) (w : AskedWith) (f : Compared) (r : Row) → IsRowOf user host w f r → (c : Cell) →
-    IsOn user host (IsAskedWith w) c → has_cell r c ≡ true
-row-has user host w f r row c on =
-    let users : list_any (λ u. u == c.user) r.users ≡ true =
-    ap (list_any (λ u. u == c.user)) row.of_spot.0 ∙ single user c.user ∙ ap (λ n. n == c.user) (sym on.0) ∙ same-self c.user in
-    let hosts : list_any (λ m. m == c.host) r.hosts ≡ true =
-    ap (list_any (λ m. m == c.host)) row.of_spot.1 ∙ single host c.host ∙ ap (λ n. n == c.host) (sym on.1) ∙ same-self c.host in
-    let there = on.2.1 in
+row-has : (user : ℕ) (hosts : List ℕ) (w : AskedWith) (f : Compared) (r : Row) → IsRowOf user hosts w f r → (c : Cell) →
+    IsOnAmong user hosts (IsAskedWith w) c → has_cell r c ≡ true
+row-has user hosts w f r row c on =
+    let own : list_any (λ u. u == c.user) r.users ≡ true =
+    ap (list_any (λ u. u == c.user)) row.users ∙ single user c.user ∙ ap (λ n. n == c.user) (sym on.0) ∙ same-self c.user in
+    let there : list_any (λ m. m == c.host) r.hosts ≡ true = ap (list_any (λ m. m == c.host)) row.hosts_are ∙ on.1 in
+    let asked = on.2.1 in
     let targets : list_any (same_number c.ask.target) r.targets ≡ true =
-    ap (list_any (same_number c.ask.target)) row.targets ∙ contains-any c.ask.target w.targets.items there.0 there.1 there.2 in
+    ap (list_any (same_number c.ask.target)) row.targets ∙ contains-any c.ask.target w.targets.items asked.0 asked.1 asked.2 in
     let groups : list_any (same_number c.ask.group) r.groups ≡ true =
     ap (list_any (same_number c.ask.group)) row.groups ∙ one-number c.ask.group w.group
     ∙ ap (same_number c.ask.group) on.2.0 ∙ same-number c.ask.group in
     and_from (list_any (λ u. u == c.user) r.users && list_any (λ m. m == c.host) r.hosts)
     (list_any (same_number c.ask.target) r.targets && list_any (same_number c.ask.group) r.groups)
-    (and_from (list_any (λ u. u == c.user) r.users) (list_any (λ m. m == c.host) r.hosts) users hosts)
+    (and_from (list_any (λ u. u == c.user) r.users) (list_any (λ m. m == c.host) r.hosts) own there)
     (and_from (list_any (same_number c.ask.target) r.targets) (list_any (same_number c.ask.group) r.groups) targets groups)
 
-has-row : (user host : ℕ) (w : AskedWith) (f : Compared) (r : Row) → IsRowOf user host w f r → (c : Cell) → has_cell r c ≡ true →
-    IsOn user host (IsAskedWith w) c
-has-row user host w f r row c has =
+has-row : (user : ℕ) (hosts : List ℕ) (w : AskedWith) (f : Compared) (r : Row) → IsRowOf user hosts w f r → (c : Cell) →
+    has_cell r c ≡ true → IsOnAmong user hosts (IsAskedWith w) c
+has-row user hosts w f r row c has =
     let both = and_parts (list_any (λ u. u == c.user) r.users && list_any (λ m. m == c.host) r.hosts)
     (list_any (same_number c.ask.target) r.targets && list_any (same_number c.ask.group) r.groups) has in
     let spot = and_parts (list_any (λ u. u == c.user) r.users) (list_any (λ m. m == c.host) r.hosts) both.0 in
     let asked = and_parts (list_any (same_number c.ask.target) r.targets) (list_any (same_number c.ask.group) r.groups) both.1 in
-    let user_is : (user == c.user) ≡ true = sym (single user c.user) ∙ ap (list_any (λ u. u == c.user)) (sym row.of_spot.0) ∙ spot.0 in
-    let host_is : (host == c.host) ≡ true = sym (single host c.host) ∙ ap (list_any (λ m. m == c.host)) (sym row.of_spot.1) ∙ spot.1 in
+    let user_is : (user == c.user) ≡ true = sym (single user c.user) ∙ ap (list_any (λ u. u == c.user)) (sym row.users) ∙ spot.0 in
     let group_is : same_number c.ask.group w.group ≡ true =
     sym (one-number c.ask.group w.group) ∙ ap (list_any (same_number c.ask.group)) (sym row.groups) ∙ asked.1 in (
       sym (eqb-true user c.user user_is),
-      sym (eqb-true host c.host host_is),
+      ap (list_any (λ m. m == c.host)) (sym row.hosts_are) ∙ spot.1,
       (
         sym (numbers-same c.ask.group w.group group_is),
         Contains-from_any numbers-same c.ask.target w.targets.items
@@ -86,50 +87,50 @@ has-row user host w f r row c has =
     )
 
 -- a row of the targets with a group is absorbed
-pub adds-row : (old new : List Row) (user host : ℕ) (w : AskedWith) (f g : Compared) (r : Row) → IsRowOf user host w g r → IsCopy f g →
-    Absorbs old r new → AddsFound old user host (IsAskedWith w) f new
-adds-row old new user host w f g r row copy absorbs = record {
+pub adds-row : (old new : List Row) (user : ℕ) (hosts : List ℕ) (w : AskedWith) (f g : Compared) (r : Row) → IsRowOf user hosts w g r →
+    IsCopy f g → Absorbs old r new → AddsFound old user hosts (IsAskedWith w) f new
+adds-row old new user hosts w f g r row copy absorbs = record {
   kept = absorbs.kept;
-  added = λ c on. (r.found, absorbs.added c (row-has user host w g r row c on));
+  added = λ c on. (r.found, absorbs.added c (row-has user hosts w g r row c on));
   only = λ c h e. go c h (absorbs.only c h e);
 }
   where
     go : (c : Cell) (h : Compared) → Finds old c h ⊎ ((has_cell r c ≡ true) × (r.found ≡ h)) →
-        Finds old c h ⊎ ((c.user ≡ user) × (c.host ≡ host) × IsAskedWith w c.ask × IsCopy f h)
+        Finds old c h ⊎ (IsOnAmong user hosts (IsAskedWith w) c × IsCopy f h)
     go c h (inl e) = inl e
     go c h (inr here) =
-        let on = has-row user host w g r row c here.0 in
-        inr (on.0, on.1, on.2, subst (IsCopy f) here.1 (subst (IsCopy f) (sym row.found) copy))
+        inr (has-row user hosts w g r row c here.0, subst (IsCopy f) here.1 (subst (IsCopy f) (sym row.found) copy))
 
-pub adds-none : (rows : List Row) (user host : ℕ) (f : Compared) → AddsFound rows user host (AreAsked []) f rows
-adds-none rows user host f = record {
+pub adds-none : (rows : List Row) (user : ℕ) (hosts : List ℕ) (f : Compared) → AddsFound rows user hosts (AreAsked []) f rows
+adds-none rows user hosts f = record {
   kept = λ c g e. e;
   added = λ c on. absurd on.2;
   only = λ c g e. inl e;
 }
 
 -- the targets with one group more
-pub adds-more : (old mid new : List Row) (user host : ℕ) (ws : List AskedWith) (k : ℕ) (w : AskedWith) (f : Compared) → k < length ws →
-    w ≡ get_or ws k w → AddsFound old user host (AreAsked (take k ws)) f mid → AddsFound mid user host (IsAskedWith w) f new →
-    AddsFound old user host (AreAsked (take (k + 1) ws)) f new
-adds-more old mid new user host ws k w f less is so_far one =
-    subst (λ (vs : List AskedWith). AddsFound old user host (AreAsked vs) f new) (sym (take-more ws k w less is)) both
+pub adds-more : (old mid new : List Row) (user : ℕ) (hosts : List ℕ) (ws : List AskedWith) (k : ℕ) (w : AskedWith) (f : Compared) →
+    k < length ws → w ≡ get_or ws k w → AddsFound old user hosts (AreAsked (take k ws)) f mid →
+    AddsFound mid user hosts (IsAskedWith w) f new → AddsFound old user hosts (AreAsked (take (k + 1) ws)) f new
+adds-more old mid new user hosts ws k w f less is so_far one =
+    subst (λ (vs : List AskedWith). AddsFound old user hosts (AreAsked vs) f new) (sym (take-more ws k w less is)) both
   where
-    add : (c : Cell) → c.user ≡ user → c.host ≡ host → AreAsked (take k ws) c.ask ⊎ IsAskedWith w c.ask → (g : Compared) × Finds new c g
+    add : (c : Cell) → c.user ≡ user → is_among hosts c.host ≡ true → AreAsked (take k ws) c.ask ⊎ IsAskedWith w c.ask →
+        (g : Compared) × Finds new c g
     add c u m (inl before) = let e = so_far.added c (u, m, before) in (e.0, one.kept c e.0 e.1)
     add c u m (inr here) = one.added c (u, m, here)
 
-    from : (c : Cell) (g : Compared) → Finds old c g ⊎ ((c.user ≡ user) × (c.host ≡ host) × AreAsked (take k ws) c.ask × IsCopy f g) →
-        Finds old c g ⊎ ((c.user ≡ user) × (c.host ≡ host) × AreAsked (take k ws ++ w ∷ []) c.ask × IsCopy f g)
+    from : (c : Cell) (g : Compared) → Finds old c g ⊎ (IsOnAmong user hosts (AreAsked (take k ws)) c × IsCopy f g) →
+        Finds old c g ⊎ (IsOnAmong user hosts (AreAsked (take k ws ++ w ∷ [])) c × IsCopy f g)
     from c g (inl e) = inl e
-    from c g (inr on) = inr (on.0, on.1, asked-first (take k ws) w c.ask on.2, on.3)
+    from c g (inr on) = inr ((on.0.0, on.0.1, asked-first (take k ws) w c.ask on.0.2), on.1)
 
-    only : (c : Cell) (g : Compared) → Finds mid c g ⊎ ((c.user ≡ user) × (c.host ≡ host) × IsAskedWith w c.ask × IsCopy f g) →
-        Finds old c g ⊎ ((c.user ≡ user) × (c.host ≡ host) × AreAsked (take k ws ++ w ∷ []) c.ask × IsCopy f g)
+    only : (c : Cell) (g : Compared) → Finds mid c g ⊎ (IsOnAmong user hosts (IsAskedWith w) c × IsCopy f g) →
+        Finds old c g ⊎ (IsOnAmong user hosts (AreAsked (take k ws ++ w ∷ [])) c × IsCopy f g)
     only c g (inl e) = from c g (so_far.only c g e)
-    only c g (inr on) = inr (on.0, on.1, asked-last (take k ws) w c.ask on.2, on.3)
+    only c g (inr on) = inr ((on.0.0, on.0.1, asked-last (take k ws) w c.ask on.0.2), on.1)
 
-    both : AddsFound old user host (AreAsked (take k ws ++ w ∷ [])) f new
+    both : AddsFound old user hosts (AreAsked (take k ws ++ w ∷ [])) f new
     both = record {
       kept = λ c g e. one.kept c g (so_far.kept c g e);
       added = λ c on. add c on.0 on.1 (asked-cases (take k ws) w c.ask on.2);
@@ -150,62 +151,97 @@ class-compared p s k f class is a asked =
     (subst (λ (ds : List Decider). IsCompared ds (near_new p q) f) (sym (decide.old s.machine.now))
     (subst (λ (es : List Decider). IsCompared (on_old p s.machine.now k.allowing) es f) (sym (decide.new s.machine.now)) is))
 
-asked-here : (p : Pair) (s : Spot) (c : Cell) → IsSpot p s → c.user ≡ s.user → c.host ≡ s.host →
-    question_at p.directory.now p.groups.now c ≡ Some (question_of p s c.ask)
-asked-here p s c at user on =
-    let is : c ≡ cell_at s c.ask = rw (sym user, sym on) refl in
-    ap (question_at p.directory.now p.groups.now) is ∙ spot-question p s c.ask at
-
-pub class-found : (p : Pair) (s : Spot) (k : AskClass) (rows new : List Row) (f : Compared) → IsSpot p s → IsAskClass p s.person.now k →
+-- and so it is in each of its cells at the spot
+pub class-right : (p : Pair) (s : Spot) (k : AskClass) (f : Compared) → IsSpot p s → IsAskClass p s.person.now k →
     IsCompared (on_old p s.machine.now k.allowing) (on_new p s.machine.now k.allowing) f →
-    AddsFound rows s.user s.host (AreAsked k.asked.items) f new → Progress p rows new (IsOn s.user s.host (AreAsked k.asked.items))
-class-found p s k rows new f at class is adds = record {
+    IsRightIn p s.user (s.host ∷ []) (AreAsked k.asked.items) f
+class-right p s k f at class is c on =
+    let here : c.host ≡ s.host = sym (eqb-true s.host c.host (sym (single s.host c.host) ∙ on.1)) in
+    subst (λ (o : Option Question). FoundIf p.old.checked.now p.new.checked.now o f) (sym (asked-here p s c at on.0 here))
+    (class-compared p s k f class is c.ask on.2)
+
+founds-push : (p : Pair) (user : ℕ) (hosts : List ℕ) (ks : List AskClass) (fs : List Compared) (k : AskClass) (f : Compared) →
+    AreRightIn p user hosts ks fs → IsRightIn p user hosts (AreAsked k.asked.items) f →
+    AreRightIn p user hosts (ks ++ k ∷ []) (fs ++ f ∷ [])
+founds-push p user hosts ks fs k f are is = (long, λ n d e less. go n d e (less-or n (length ks) (omega (arith, less, more))))
+  where
+    more : length (ks ++ k ∷ []) ≡ length ks + 1
+    more = length-append ks (k ∷ [])
+
+    long : length (fs ++ f ∷ []) ≡ length (ks ++ k ∷ [])
+    long = length-append fs (f ∷ []) ∙ ap (λ (n : ℕ). n + 1) are.0 ∙ sym more
+
+    go : (n : ℕ) (d : AskClass) (e : Compared) → (n < length ks) ⊎ (n ≡ length ks) →
+        IsRightIn p user hosts (AreAsked (get_or (ks ++ k ∷ []) n d).asked.items) (get_or (fs ++ f ∷ []) n e)
+    go n d e (inl before) =
+        subst (λ (j : AskClass). IsRightIn p user hosts (AreAsked j.asked.items) (get_or (fs ++ f ∷ []) n e))
+        (sym (get_or_append_left ks (k ∷ []) d n before))
+        (subst (λ (g : Compared). IsRightIn p user hosts (AreAsked (get_or ks n d).asked.items) g)
+        (sym (get_or_append_left fs (f ∷ []) e n (omega (arith, before, are.0)))) (are.1 n d e before))
+    go n d e (inr here) =
+        subst (λ (j : AskClass). IsRightIn p user hosts (AreAsked j.asked.items) (get_or (fs ++ f ∷ []) n e))
+        (sym (get_or_push ks k d n (sym here)))
+        (subst (λ (g : Compared). IsRightIn p user hosts (AreAsked k.asked.items) g) (sym (get_or_push fs f e n (are.0 ∙ sym here))) is)
+
+-- what is found for one class more
+pub founds-more : (p : Pair) (user : ℕ) (hosts : List ℕ) (ks : List AskClass) (fs : List Compared) (n : ℕ) (k : AskClass)
+    (f : Compared) → n < length ks → k ≡ get_or ks n k → AreRightIn p user hosts (take n ks) fs →
+    IsRightIn p user hosts (AreAsked k.asked.items) f → AreRightIn p user hosts (take (n + 1) ks) (fs ++ f ∷ [])
+founds-more p user hosts ks fs n k f less is so_far one =
+    subst (λ (js : List AskClass). AreRightIn p user hosts js (fs ++ f ∷ [])) (sym (take-more ks n k less is))
+    (founds-push p user hosts (take n ks) fs k f so_far one)
+
+pub founds-none : (p : Pair) (user : ℕ) (hosts : List ℕ) → AreRightIn p user hosts [] []
+founds-none p user hosts = (refl, λ n d e less. absurd (omega (arith, less)))
+
+copied-found : (p : Pair) (o : Option Question) (f g : Compared) → IsCopy f g → FoundIf p.old.checked.now p.new.checked.now o f →
+    FoundIf p.old.checked.now p.new.checked.now o g
+copied-found p None f g copy is = tt
+copied-found p (Some q) f g copy is = copy (deciders p.old.checked.now q) (deciders p.new.checked.now q) is
+
+-- rows with what is found for a class
+pub class-found : (p : Pair) (user : ℕ) (hosts : List ℕ) (asked : Ask → Type 0) (rows new : List Row) (f : Compared) →
+    IsRightIn p user hosts asked f → AddsFound rows user hosts asked f new → Progress p rows new (IsOnAmong user hosts asked)
+class-found p user hosts asked rows new f is adds = record {
   kept = adds.kept;
   right = λ right c g e. go right c g (adds.only c g e);
   done = λ c on. inr (adds.added c on);
 }
   where
     go : ((c : Cell) (g : Compared) → Finds rows c g → IsFound p.old.checked.now p.new.checked.now p.directory.now p.groups.now c g) →
-        (c : Cell) (g : Compared) →
-        Finds rows c g ⊎ ((c.user ≡ s.user) × (c.host ≡ s.host) × AreAsked k.asked.items c.ask × IsCopy f g) →
+        (c : Cell) (g : Compared) → Finds rows c g ⊎ (IsOnAmong user hosts asked c × IsCopy f g) →
         IsFound p.old.checked.now p.new.checked.now p.directory.now p.groups.now c g
     go right c g (inl e) = right c g e
-    go right c g (inr on) =
-        subst (λ (o : Option Question). FoundIf p.old.checked.now p.new.checked.now o g) (sym (asked-here p s c at on.0 on.1))
-        (on.3 (deciders p.old.checked.now (question_of p s c.ask)) (deciders p.new.checked.now (question_of p s c.ask))
-        (class-compared p s k f class is c.ask on.2))
+    go right c g (inr on) = copied-found p (question_at p.directory.now p.groups.now c) f g on.1 (is c on.0)
 
-pub class-same : (p : Pair) (s : Spot) (k : AskClass) (rows : List Row) (f : Compared) → IsSpot p s → IsAskClass p s.person.now k →
-    IsCompared (on_old p s.machine.now k.allowing) (on_new p s.machine.now k.allowing) f → f ≡ compared.Same →
-    Progress p rows rows (IsOn s.user s.host (AreAsked k.asked.items))
-class-same p s k rows f at class is same = nothing-added p rows (IsOn s.user s.host (AreAsked k.asked.items)) (λ c on. here c on)
-  where
-    here : (c : Cell) → IsOn s.user s.host (AreAsked k.asked.items) c →
-        SameIf p.old.checked.now p.new.checked.now (question_at p.directory.now p.groups.now c)
-    here c on =
-        let q = question_of p s c.ask in
-        let says : SaySame p.old.checked.now p.new.checked.now q =
-        rows_say_same p.old.checked.now p.new.checked.now q
-        (subst (λ (g : Compared). IsCompared (deciders p.old.checked.now q) (deciders p.new.checked.now q) g) same
-        (class-compared p s k f class is c.ask on.2)) in
-        subst (λ (o : Option Question). SameIf p.old.checked.now p.new.checked.now o) (sym (asked-here p s c at on.0 on.1)) says
+found-same : (p : Pair) (o : Option Question) → FoundIf p.old.checked.now p.new.checked.now o compared.Same →
+    SameIf p.old.checked.now p.new.checked.now o
+found-same p None is = tt
+found-same p (Some q) is = rows_say_same p.old.checked.now p.new.checked.now q is
+
+pub class-same : (p : Pair) (user : ℕ) (hosts : List ℕ) (asked : Ask → Type 0) (rows : List Row) (f : Compared) →
+    IsRightIn p user hosts asked f → f ≡ compared.Same → Progress p rows rows (IsOnAmong user hosts asked)
+class-same p user hosts asked rows f is same = nothing-added p rows (IsOnAmong user hosts asked)
+    (λ c on. found-same p (question_at p.directory.now p.groups.now c)
+    (subst (λ (g : Compared). FoundIf p.old.checked.now p.new.checked.now (question_at p.directory.now p.groups.now c) g) same
+    (is c on)))
 
 -- one class more
-pub class-more : (p : Pair) (rows new : List Row) (s : Spot) (ks : List AskClass) (n : ℕ) (k : AskClass) → n < length ks →
-    k ≡ get_or ks n k → Progress p [] rows (IsOn s.user s.host (HaveAsk (take n ks))) →
-    Progress p rows new (IsOn s.user s.host (AreAsked k.asked.items)) →
-    Progress p [] new (IsOn s.user s.host (HaveAsk (take (n + 1) ks)))
-class-more p rows new s ks n k less is so_far one =
-    went-on p [] rows new (IsOn s.user s.host (HaveAsk (take n ks))) (IsOn s.user s.host (AreAsked k.asked.items))
-    (IsOn s.user s.host (HaveAsk (take (n + 1) ks))) either so_far one
+pub class-more : (p : Pair) (rows new : List Row) (user : ℕ) (hosts : List ℕ) (ks : List AskClass) (n : ℕ) (k : AskClass) →
+    n < length ks → k ≡ get_or ks n k → Progress p [] rows (IsOnAmong user hosts (HaveAsk (take n ks))) →
+    Progress p rows new (IsOnAmong user hosts (AreAsked k.asked.items)) →
+    Progress p [] new (IsOnAmong user hosts (HaveAsk (take (n + 1) ks)))
+class-more p rows new user hosts ks n k less is so_far one =
+    went-on p [] rows new (IsOnAmong user hosts (HaveAsk (take n ks))) (IsOnAmong user hosts (AreAsked k.asked.items))
+    (IsOnAmong user hosts (HaveAsk (take (n + 1) ks))) either so_far one
   where
-    split : (c : Cell) → c.user ≡ s.user → c.host ≡ s.host → HaveAsk (take n ks) c.ask ⊎ AreAsked k.asked.items c.ask →
-        IsOn s.user s.host (HaveAsk (take n ks)) c ⊎ IsOn s.user s.host (AreAsked k.asked.items) c
+    split : (c : Cell) → c.user ≡ user → is_among hosts c.host ≡ true → HaveAsk (take n ks) c.ask ⊎ AreAsked k.asked.items c.ask →
+        IsOnAmong user hosts (HaveAsk (take n ks)) c ⊎ IsOnAmong user hosts (AreAsked k.asked.items) c
     split c u m (inl there) = inl (u, m, there)
     split c u m (inr here) = inr (u, m, here)
 
-    either : (c : Cell) → IsOn s.user s.host (HaveAsk (take (n + 1) ks)) c →
-        IsOn s.user s.host (HaveAsk (take n ks)) c ⊎ IsOn s.user s.host (AreAsked k.asked.items) c
+    either : (c : Cell) → IsOnAmong user hosts (HaveAsk (take (n + 1) ks)) c →
+        IsOnAmong user hosts (HaveAsk (take n ks)) c ⊎ IsOnAmong user hosts (AreAsked k.asked.items) c
     either c on = split c on.0 on.1
         (classes-cases (take n ks) k c.ask (subst (λ (js : List AskClass). HaveAsk js c.ask) (take-more ks n k less is) on.2))
 
@@ -250,40 +286,10 @@ ordered-done p rows os P are so_far = record {
     go c (inl same) = inl same
     go c (inr e) = inr (e.0, finds-ordered rows os are c e.0 e.1)
 
--- one number in another order is the same
-only-one : (x : ℕ) (ys : List ℕ) → IsPermutation (x ∷ []) ys → ys ≡ x ∷ []
-only-one x [] p = let long : 0 ≡ 1 = length_permutation (x ∷ []) [] p in absurd (omega (arith, long))
-only-one x (y ∷ z ∷ ys) p =
-    let long : length (y ∷ z ∷ ys) ≡ 1 = length_permutation (x ∷ []) (y ∷ z ∷ ys) p in absurd (omega (arith, long))
-only-one x (y ∷ []) p =
-    let there : (y == x) ≡ true = sym (or-false (y == x)) ∙ sym (list_any-IsPermutation (λ n. n == x) (x ∷ []) (y ∷ []) p)
-    ∙ single x x ∙ same-self x in
-    ap (λ n. n ∷ []) (eqb-true y x there)
-
-ordered-spot : (user host : ℕ) (rows os : List Row) → AreOrdered rows os → All (IsOfSpot user host) rows →
-    All (IsOfSpot user host) os
-ordered-spot user host [] [] are all = all
-ordered-spot user host [] (s ∷ os) are all = absurd are
-ordered-spot user host (r ∷ rows) [] are all = absurd are
-ordered-spot user host (r ∷ rows) (s ∷ os) are all =
-    by (ordered-spot user host rows os are.1 (λ k x more. all (suc k) x (omega (arith, more))))
-  where
-    first : IsOfSpot user host r
-    first = all 0 r (omega arith)
-
-    by : All (IsOfSpot user host) os → (n : ℕ) (d : Row) → n < length (s ∷ os) → IsOfSpot user host (get_or (s ∷ os) n d)
-    by rest zero d less = ((are.0).users ∙ first.0, only-one host s.hosts (subst (λ hs. IsPermutation hs s.hosts) first.1 (are.0).hosts))
-    by rest (suc n) d less = rest n d (omega (arith, less))
-
 -- rows of which some became one
 pub merged-done : (p : Pair) (rows new : List Row) (P : Cell → Type 0) → AreMerged rows new → Progress p [] rows P → Progress p [] new P
 merged-done p rows new P are so_far =
-    all-added p [] are.ordered new P (ordered-done p rows are.ordered P are.are_ordered so_far) are.are_grouped.absorbed
-
-pub merged-spot : (user host : ℕ) (rows new : List Row) → AreMerged rows new → All (IsOfSpot user host) rows →
-    All (IsOfSpot user host) new
-merged-spot user host rows new are all =
-    are.are_grouped.of_spot user host (ordered-spot user host rows are.ordered are.are_ordered all)
+    all-added p [] are.ordered new P (ordered-done p rows are.ordered P are.are_ordered so_far) are.are_grouped
 
 pub ordered-more : (rows os : List Row) (r s : Row) → AreOrdered rows os → IsOrdered r s → AreOrdered (rows ++ r ∷ []) (os ++ s ∷ [])
 ordered-more [] [] r s are is = (is, tt)

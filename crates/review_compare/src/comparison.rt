@@ -38,13 +38,17 @@ impl Comparison {
     }
 }
 
-// Returns the index of the comparison of these blocks, if there is one.
+// The most comparisons that are looked at: the last ones, since users and hosts near each other have the same blocks.
+const MOST_TRIED: usize = 512;
+
+// Returns the index of a comparison of these blocks, if one of the last ones is.
 fn index_of(comparisons: &[Comparison], old: &[usize], new: &[usize]) -> Option<usize>
     ensures { IfSome result (λ i. (i < length comparisons.now) × ((d : TheComparison)
         → body.IsOf (get_or comparisons.now i d) old.now new.now)) }
 {
     let mut end = comparisons.len();
-    while end > 0 {
+    let least = end.saturating_sub(MOST_TRIED);
+    while end > least {
         end -= 1;
         if comparisons[end].is_of(old, new) {
             return Some(end);

@@ -11,6 +11,7 @@ use crate::ask_class::{AskClass, ask_classes};
 use crate::asks::all_asks;
 use crate::cell::Ask;
 use crate::comparison::Comparison;
+use crate::finder::Finder;
 use crate::host_class::{HostClass, add_spot, rows_of};
 use crate::pair::Pair;
 use crate::row::{Dimension, Row, absorb_all};
@@ -82,14 +83,14 @@ fn add_host<'a>(
     requires spot { body.IsSpot pair.now spot }
     requires listed { body.AreListedFor pair.now spot.person.now listed.now }
     requires asked { All (IsAskClass pair.now spot.person.now) asked.now }
-    requires classes { All (IsClass pair.now spot.user spot.person.now (HaveAsk asked.now))
+    requires classes { All (IsClass pair.now spot.user spot.person.now asked.now)
         classes.old.items }
     requires right { All (IsRight pair.now) comparisons.old.items }
     ensures added { OnOk result (AddsCells pair.entry.now classes.old.items
         (body.IsOnAsked pair.entry.now (option_copied scope.entry) spot.entry.user
         spot.entry.host (HaveAsk asked.entry.now)) classes.new.items) }
     ensures classes { OnOk result (All (IsClass pair.entry.now spot.entry.user
-        spot.entry.person.now (HaveAsk asked.entry.now)) classes.new.items) }
+        spot.entry.person.now asked.entry.now) classes.new.items) }
     ensures right { OnOk result (All (IsRight pair.entry.now) comparisons.new.items) }
 {
     if !is_this_host(scope, spot.machine) {
@@ -149,7 +150,7 @@ fn classes_for<'a>(
         (option_copied scope.entry) user (HaveAsk asked.entry.now) c
         → IsClassed pair.entry.now classes.items c) }
     ensures classes { IfOk result (λ classes. All (IsClass pair.entry.now user person.entry.now
-        (HaveAsk asked.entry.now)) classes.items) }
+        asked.entry.now) classes.items) }
     ensures right { OnOk result (All (IsRight pair.entry.now) comparisons.new.items) }
 {
     let mut classes = Vec::new(alloc);
@@ -196,7 +197,7 @@ fn rows_for_asked(
     ensures right { OnOk result (All (IsRight pair.entry.now) comparisons.new.items) }
 {
     let classes = classes_for(alloc, pair, user, person, scope, listed, asked, comparisons)?;
-    rows_of(alloc, pair, user, person, asked, &classes)
+    rows_of(alloc, pair, user, person, asked, classes)
 }
 
 // Returns what is found for the user on the hosts that are asked about. The machine is any known host.
@@ -265,6 +266,7 @@ fn add_user(
     asks: &[Ask],
     comparisons: &mut Vec<Comparison>,
     rows: &mut Vec<Row>,
+    finder: &mut Finder,
 ) -> Result<(), AllocError>
     requires user { slice_get pair.now.directory.now.people user ≡ Some person.now }
     requires right { All (IsRight pair.now) comparisons.old.items }
@@ -280,8 +282,11 @@ fn add_user(
         return Ok(());
     }
     let more = rows_for(alloc, pair, user, person, scope.host, asks, comparisons)?;
-    absorb_all(rows, more, Dimension::Users)
+    absorb_all(rows, more, Dimension::Users, finder)
 }
+
+// The number of buckets in which the rows of all users are found.
+const BUCKETS_OF_ALL: usize = 16384;
 
 // Returns what is found for the users on the hosts that are asked about.
 fn all_rows(
@@ -295,6 +300,7 @@ fn all_rows(
         (option_copied scope.entry.host) asks.now)) }
 {
     let mut comparisons = Vec::new(alloc);
+    let mut finder = Finder::new(alloc, BUCKETS_OF_ALL)?;
     let mut rows = Vec::new(alloc);
     let people = pair.directory.people();
     for user in 0..people.len() {
@@ -307,6 +313,7 @@ fn all_rows(
             asks,
             &mut comparisons,
             &mut rows,
+            &mut finder,
         )?;
     }
     Ok(rows)

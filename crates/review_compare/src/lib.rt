@@ -17,6 +17,7 @@ mod compared;
 mod comparison;
 mod copied;
 mod differences;
+mod finder;
 mod fitting;
 mod host_class;
 mod laws;

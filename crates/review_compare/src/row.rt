@@ -1,5 +1,5 @@
 //! Rows of the table: cells of which one thing is found.
-ghost use Rattle.std.specs.Prelude.{◌≡◌, ◌<◌, ℕ, All, IfOk, IfSome, OnOk, get_or, length, true};
+ghost use Rattle.std.specs.Prelude.{◌≡◌, ◌<◌, [], IfOk, IfSome, OnOk, get_or, length, true};
 ghost use Rattle.review_compare.specs.declared.row.Row.{Row as TheRow};
 ghost use Rattle.review_compare.specs.Differences as differences;
 ghost use Rattle.review_compare.specs.Body.Merged as body;
@@ -7,7 +7,7 @@ ghost use Rattle.review_compare.specs.Body.Merged as body;
 use crate::alike::is_same_found;
 use crate::ask_class::AskedWith;
 use crate::compared::Compared;
-use crate::spot::Spot;
+use crate::finder::{Finder, digest_of};
 use std::alloc::{AllocError, Global};
 use sudo_text::Seq;
 
@@ -25,6 +25,9 @@ pub struct Row {
     /// What is found.
     pub found: Compared,
 }
+
+/// The number of buckets in which the rows of one user are found.
+pub(crate) const BUCKETS: usize = 256;
 
 /// In what two rows may differ that become one.
 #[derive(Clone, Copy, Debug, PartialEq, Eq)]
@@ -77,17 +80,18 @@ fn are_same_asked(numbers: &Seq<Option<usize>>, others: &Seq<Option<usize>>) -> 
 }
 
 impl Row {
-    /// Returns the row of the targets with a group at a spot. Returns `AllocError` if allocation fails.
+    /// Returns the row of the targets with a group, for a user on hosts. Returns `AllocError` if allocation fails.
     pub(crate) fn of(
         alloc: Global,
-        spot: Spot<'_>,
+        user: usize,
+        hosts: &[usize],
         asked: &AskedWith,
         found: Compared,
     ) -> Result<Row, AllocError>
-        ensures { IfOk result (body.IsRowOf spot.entry.user spot.entry.host asked.now found) }
+        ensures { IfOk result (body.IsRowOf user hosts.entry.now asked.now found) }
     {
-        let users = Seq::from_slice(alloc, &[spot.user])?;
-        let hosts = Seq::from_slice(alloc, &[spot.host])?;
+        let users = Seq::from_slice(alloc, &[user])?;
+        let hosts = Seq::from_slice(alloc, hosts)?;
         let targets = Seq::from_slice(alloc, &asked.targets)?;
         let groups = Seq::from_slice(alloc, &[asked.group])?;
         Ok(Row {
@@ -180,9 +184,7 @@ impl Row {
     // Appends what the other has in this.
     fn extend(&mut self, other: &Row, dimension: Dimension) -> Result<(), AllocError>
         requires { body.AreLike dimension self.old other.now }
-        ensures joined { OnOk result (body.IsJoined self.old other.now self.new) }
-        ensures of_spot { OnOk result (body.keeps_spot dimension ≡ true
-            → (self.new.users ≡ self.old.users) × (self.new.hosts ≡ self.old.hosts)) }
+        ensures { OnOk result (body.IsJoined self.old other.now self.new) }
     {
         match dimension {
             Dimension::Users => self.users.extend_from_slice(other.users.as_slice()),
@@ -193,30 +195,45 @@ impl Row {
     }
 }
 
-// Returns the index of the first row that differs from this one in the dimension alone.
-fn like_index(rows: &[Row], row: &Row, dimension: Dimension) -> Option<usize>
+// Whether there is a row at the index that differs from this one in the dimension alone.
+fn is_like_at(rows: &[Row], index: usize, row: &Row, dimension: Dimension) -> bool
+    ensures { result ≡ true → (index < length rows.now) × ((d : TheRow)
+        → body.AreLike dimension (get_or rows.now index d) row.now) }
+{
+    if index >= rows.len() {
+        return false;
+    }
+    rows[index].is_like(row, dimension)
+}
+
+// Returns the first of the indices at which a row differs from this one in the dimension alone.
+fn like_index(rows: &[Row], row: &Row, dimension: Dimension, indices: &[usize]) -> Option<usize>
     ensures { IfSome result (λ i. (i < length rows.now) × ((d : TheRow)
         → body.AreLike dimension (get_or rows.now i d) row.now)) }
 {
-    for index in 0..rows.len() {
-        if rows[index].is_like(row, dimension) {
-            return Some(index);
+    for index in indices {
+        if is_like_at(rows, *index, row, dimension) {
+            return Some(*index);
         }
     }
     None
 }
 
-/// Merges a row into the first row that differs from it in this dimension alone; otherwise appends it. Returns `AllocError` if
-/// allocation fails.
-pub(crate) fn absorb(rows: &mut Vec<Row>, row: Row, dimension: Dimension) -> Result<(), AllocError>
-    ensures absorbed { OnOk result (body.Absorbs rows.old.items row rows.new.items) }
-    ensures of_spot { OnOk result (body.keeps_spot dimension ≡ true → (user host : ℕ)
-        → body.IsOfSpot user host row → All (body.IsOfSpot user host) rows.old.items
-        → All (body.IsOfSpot user host) rows.new.items) }
+/// Merges a row into the row that differs from it in this dimension alone, if the finder has one; otherwise appends it. Returns
+/// `AllocError` if allocation fails.
+pub(crate) fn absorb(
+    rows: &mut Vec<Row>,
+    row: Row,
+    dimension: Dimension,
+    finder: &mut Finder,
+) -> Result<(), AllocError>
+    ensures { OnOk result (body.Absorbs rows.old.items row rows.new.items) }
 {
-    match like_index(rows, &row, dimension) {
+    let digest = digest_of(&row, dimension);
+    match like_index(rows, &row, dimension, finder.indices(digest)) {
         Some(index) => rows[index].extend(&row, dimension),
         None => {
+            finder.add(digest, rows.len())?;
             rows.push(row)?;
             Ok(())
         }
@@ -228,11 +245,12 @@ pub(crate) fn absorb_all(
     rows: &mut Vec<Row>,
     more: Vec<Row>,
     dimension: Dimension,
+    finder: &mut Finder,
 ) -> Result<(), AllocError>
     ensures { OnOk result (body.AbsorbsAll rows.old.items more.items rows.new.items) }
 {
     for row in more {
-        absorb(rows, row, dimension)?;
+        absorb(rows, row, dimension, finder)?;
     }
     Ok(())
 }
@@ -274,11 +292,12 @@ pub(crate) fn ordered(alloc: Global, rows: Vec<Row>) -> Result<Vec<Row>, AllocEr
 
 // Returns the rows, those that differ in the group alone as one.
 fn grouped(alloc: Global, rows: Vec<Row>) -> Result<Vec<Row>, AllocError>
-    ensures { IfOk result (λ grouped. body.AreGrouped rows.items grouped.items) }
+    ensures { IfOk result (λ grouped. body.AbsorbsAll [] rows.items grouped.items) }
 {
+    let mut finder = Finder::new(alloc, BUCKETS)?;
     let mut grouped = Vec::new(alloc);
     for row in rows {
-        absorb(&mut grouped, row, Dimension::Groups)?;
+        absorb(&mut grouped, row, Dimension::Groups, &mut finder)?;
     }
     Ok(grouped)
 }

@@ -1,17 +1,19 @@
 //! The comparison for a known user on a known host.
-ghost use Rattle.std.specs.Prelude.{◌≡◌, [], All, IfOk, OnOk};
+ghost use Rattle.std.specs.Prelude.{◌≡◌, ◌∷◌, [], All, IfOk, OnOk};
 ghost use Rattle.review_compare.specs.Body.AskClasses.{AreAsked, HaveAsk, IsAskClass, IsAskedWith, on_new, on_old};
 ghost use Rattle.review_compare.specs.Witnesses.{IsCompared};
 ghost use Rattle.review_compare.specs.Body.Comparisons.{IsRight};
-ghost use Rattle.review_compare.specs.Body.Merged.{AddsFound, IsOfSpot};
+ghost use Rattle.review_compare.specs.Body.Classes.{AreRightIn, IsRightIn};
+ghost use Rattle.review_compare.specs.Body.Merged.{AddsFound, IsOnAmong};
 ghost use Rattle.review_compare.specs.Body.Progress as body;
 
 use crate::ask_class::{AskClass, AskedWith};
 use crate::compared::Compared;
 use crate::comparison::{Comparison, found_of};
 use crate::copied::copied;
+use crate::finder::Finder;
 use crate::pair::Pair;
-use crate::row::{Dimension, Row, absorb, merged};
+use crate::row::{BUCKETS, Dimension, Row, absorb, merged};
 use std::alloc::{AllocError, Global};
 use sudo_match::{Machine, Person};
 
@@ -49,87 +51,132 @@ fn found_on(
     found_of(alloc, pair, comparisons, old, new)
 }
 
-// Adds the outcome for the targets with one group.
-fn add_found(
-    alloc: Global,
-    spot: Spot<'_>,
-    asked: &AskedWith,
-    found: &Compared,
-    rows: &mut Vec<Row>,
-) -> Result<(), AllocError>
-    ensures added { OnOk result (AddsFound rows.old.items spot.entry.user spot.entry.host
-        (IsAskedWith asked.now) found.now rows.new.items) }
-    ensures of_spot { OnOk result (All (IsOfSpot spot.entry.user spot.entry.host) rows.old.items
-        → All (IsOfSpot spot.entry.user spot.entry.host) rows.new.items) }
-{
-    let copy = copied(alloc, found)?;
-    let row = Row::of(alloc, spot, asked, copy)?;
-    absorb(rows, row, Dimension::Targets)
-}
-
-// Adds the outcome for all asks of a class.
-fn add_each(
-    alloc: Global,
-    spot: Spot<'_>,
-    asked: &[AskedWith],
-    found: &Compared,
-    rows: &mut Vec<Row>,
-) -> Result<(), AllocError>
-    ensures added { OnOk result (AddsFound rows.old.items spot.entry.user spot.entry.host
-        (AreAsked asked.now) found.now rows.new.items) }
-    ensures of_spot { OnOk result (All (IsOfSpot spot.entry.user spot.entry.host) rows.old.items
-        → All (IsOfSpot spot.entry.user spot.entry.host) rows.new.items) }
-{
-    for targets in asked {
-        add_found(alloc, spot, targets, found, rows)?;
-    }
-    Ok(())
-}
-
-// Compares the policies for a class of asks at the spot, and adds the outcome, unless both say the same.
-fn add_class(
+// Compares the policies at the spot for the asks of a class.
+fn found_at(
     alloc: Global,
     pair: &Pair<'_>,
     spot: Spot<'_>,
     class: &AskClass,
     comparisons: &mut Vec<Comparison>,
-    rows: &mut Vec<Row>,
-) -> Result<(), AllocError>
+) -> Result<Compared, AllocError>
     requires spot { body.IsSpot pair.now spot }
     requires class { IsAskClass pair.now spot.person.now class.now }
     requires right { All (IsRight pair.now) comparisons.old.items }
-    ensures added { OnOk result (body.Progress pair.entry.now rows.old.items rows.new.items
-        (body.IsOn spot.entry.user spot.entry.host (AreAsked class.entry.now.asked.items))) }
+    ensures found { IfOk result (IsRightIn pair.entry.now spot.entry.user (spot.entry.host ∷ [])
+        (AreAsked class.entry.now.asked.items)) }
     ensures right { OnOk result (All (IsRight pair.entry.now) comparisons.new.items) }
-    ensures of_spot { OnOk result (All (IsOfSpot spot.entry.user spot.entry.host)
-        rows.old.items → All (IsOfSpot spot.entry.user spot.entry.host) rows.new.items) }
 {
-    match found_on(alloc, pair, spot.machine, class, comparisons)? {
-        Compared::Same => Ok(()),
-        found => add_each(alloc, spot, &class.asked, &found, rows),
-    }
+    found_on(alloc, pair, spot.machine, class, comparisons)
 }
 
-/// Returns the rows of the comparison at the spot. Returns `AllocError` if allocation fails.
-pub(crate) fn rows_on(
+/// Compares the policies at the spot for the asks of each class. Returns `AllocError` if allocation fails.
+pub(crate) fn founds_at(
     alloc: Global,
     pair: &Pair<'_>,
     spot: Spot<'_>,
     classes: &[AskClass],
     comparisons: &mut Vec<Comparison>,
-) -> Result<Vec<Row>, AllocError>
+) -> Result<Vec<Compared>, AllocError>
     requires spot { body.IsSpot pair.now spot }
     requires classes { All (IsAskClass pair.now spot.person.now) classes.now }
     requires right { All (IsRight pair.now) comparisons.old.items }
-    ensures all { IfOk result (λ rows. body.Progress pair.entry.now [] rows.items
-        (body.IsOn spot.entry.user spot.entry.host (HaveAsk classes.entry.now))) }
+    ensures founds { IfOk result (λ founds. AreRightIn pair.entry.now spot.entry.user
+        (spot.entry.host ∷ []) classes.entry.now founds.items) }
     ensures right { OnOk result (All (IsRight pair.entry.now) comparisons.new.items) }
-    ensures of_spot { IfOk result (λ rows. All (IsOfSpot spot.entry.user spot.entry.host)
-        rows.items) }
 {
-    let mut rows = Vec::new(alloc);
+    let mut founds = Vec::new(alloc);
     for class in classes {
-        add_class(alloc, pair, spot, class, comparisons, &mut rows)?;
+        let found = found_at(alloc, pair, spot, class, comparisons)?;
+        founds.push(found)?;
+    }
+    Ok(founds)
+}
+
+// Adds the outcome for the targets with one group.
+fn add_found(
+    alloc: Global,
+    user: usize,
+    hosts: &[usize],
+    asked: &AskedWith,
+    found: &Compared,
+    rows: &mut Vec<Row>,
+    finder: &mut Finder,
+) -> Result<(), AllocError>
+    ensures { OnOk result (AddsFound rows.old.items user hosts.entry.now
+        (IsAskedWith asked.entry.now) found.entry.now rows.new.items) }
+{
+    let copy = copied(alloc, found)?;
+    let row = Row::of(alloc, user, hosts, asked, copy)?;
+    absorb(rows, row, Dimension::Targets, finder)
+}
+
+// Adds the outcome for all asks of a class.
+fn add_each(
+    alloc: Global,
+    user: usize,
+    hosts: &[usize],
+    asked: &[AskedWith],
+    found: &Compared,
+    rows: &mut Vec<Row>,
+    finder: &mut Finder,
+) -> Result<(), AllocError>
+    ensures { OnOk result (AddsFound rows.old.items user hosts.entry.now
+        (AreAsked asked.entry.now) found.entry.now rows.new.items) }
+{
+    for targets in asked {
+        add_found(alloc, user, hosts, targets, found, rows, finder)?;
+    }
+    Ok(())
+}
+
+// Adds the outcome for a class of asks, unless both policies say the same.
+fn add_class(
+    alloc: Global,
+    pair: &Pair<'_>,
+    user: usize,
+    hosts: &[usize],
+    class: &AskClass,
+    found: &Compared,
+    rows: &mut Vec<Row>,
+    finder: &mut Finder,
+) -> Result<(), AllocError>
+    requires { IsRightIn pair.now user hosts.now (AreAsked class.now.asked.items) found.now }
+    ensures { OnOk result (body.Progress pair.entry.now rows.old.items rows.new.items
+        (IsOnAmong user hosts.entry.now (AreAsked class.entry.now.asked.items))) }
+{
+    match found {
+        Compared::Same => Ok(()),
+        found => add_each(alloc, user, hosts, &class.asked, found, rows, finder),
+    }
+}
+
+/// Returns the rows of what is found for the user on the hosts, for each class of asks. Returns `AllocError` if allocation
+/// fails.
+pub(crate) fn rows_on(
+    alloc: Global,
+    pair: &Pair<'_>,
+    user: usize,
+    hosts: &[usize],
+    classes: &[AskClass],
+    founds: &[Compared],
+) -> Result<Vec<Row>, AllocError>
+    requires { AreRightIn pair.now user hosts.now classes.now founds.now }
+    ensures { IfOk result (λ rows. body.Progress pair.entry.now [] rows.items
+        (IsOnAmong user hosts.entry.now (HaveAsk classes.entry.now))) }
+{
+    let mut finder = Finder::new(alloc, BUCKETS)?;
+    let mut rows = Vec::new(alloc);
+    for index in 0..classes.len() {
+        add_class(
+            alloc,
+            pair,
+            user,
+            hosts,
+            &classes[index],
+            &founds[index],
+            &mut rows,
+            &mut finder,
+        )?;
     }
     merged(alloc, rows)
 }

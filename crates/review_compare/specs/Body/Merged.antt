@@ -1,5 +1,6 @@
 -- Rows that become one; only proofs of bodies need these definitions.
-use Rattle.std.specs.Prelude.{All, IsPermutation, ◌≡◌, ◌⊎◌, ℕ, Bool, true, false, ◌&&◌, ◌||◌, ◌==◌, List, [], ◌∷◌, Option}
+use Rattle.std.specs.Prelude.{IsPermutation, ◌≡◌, ◌⊎◌, ℕ, Bool, true, false, ◌&&◌, ◌||◌, ◌==◌, List, [], ◌∷◌, Option}
+use Rattle.std.specs.List.{list_any}
 use Rattle.review_compare.specs.declared.ask_class.AskedWith.{AskedWith}
 use Rattle.review_compare.specs.declared.cell.Ask.{Ask}
 use Rattle.review_compare.specs.declared.cell.Cell.{Cell}
@@ -26,16 +27,13 @@ AreLike dimension.Hosts r s = (r.users ≡ s.users) × (r.targets ≡ s.targets)
 AreLike dimension.Targets r s = (r.users ≡ s.users) × (r.hosts ≡ s.hosts) × (r.groups ≡ s.groups) × (r.found ≡ s.found)
 AreLike dimension.Groups r s = (r.users ≡ s.users) × (r.hosts ≡ s.hosts) × (r.targets ≡ s.targets) × (r.found ≡ s.found)
 
--- rows that differ in this alone are of the same users and hosts
-abbrev pub keeps_spot : Dimension → Bool
-keeps_spot dimension.Users = false
-keeps_spot dimension.Hosts = false
-keeps_spot dimension.Targets = true
-keeps_spot dimension.Groups = true
+-- the host is one of these
+abbrev pub is_among : List ℕ → ℕ → Bool
+is_among hosts host = list_any (λ m. m == host) hosts
 
--- a row of the user on the host alone
-abbrev pub IsOfSpot : ℕ → ℕ → Row → Type 0
-IsOfSpot user host r = (r.users ≡ user ∷ []) × (r.hosts ≡ host ∷ [])
+-- a cell of the user on one of the hosts, with one of these asks
+abbrev pub IsOnAmong : ℕ → List ℕ → (Ask → Type 0) → Cell → Type 0
+IsOnAmong user hosts asked c = (c.user ≡ user) × (is_among hosts c.host ≡ true) × asked c.ask
 
 -- the row has the cells of both, of which the same is found
 pub record IsJoined (r s t : Row) : Type 0 where
@@ -43,19 +41,19 @@ pub record IsJoined (r s t : Row) : Type 0 where
   pub first : t.found ≡ r.found
   pub second : t.found ≡ s.found
 
--- the row of the targets with a group, for the user on the host
-pub record IsRowOf (user host : ℕ) (w : AskedWith) (f : Compared) (r : Row) : Type 0 where
-  pub of_spot : IsOfSpot user host r
+-- the row of the targets with a group, for the user on the hosts
+pub record IsRowOf (user : ℕ) (hosts : List ℕ) (w : AskedWith) (f : Compared) (r : Row) : Type 0 where
+  pub users : r.users ≡ user ∷ []
+  pub hosts_are : r.hosts ≡ hosts
   pub targets : r.targets ≡ w.targets.items
   pub groups : r.groups ≡ w.group ∷ []
   pub found : r.found ≡ f
 
--- the rows with what is found for the user on the host, for some asks
-pub record AddsFound (old : List Row) (user host : ℕ) (asked : Ask → Type 0) (found : Compared) (new : List Row) : Type 0 where
+-- the rows with what is found for the user on the hosts, for some asks
+pub record AddsFound (old : List Row) (user : ℕ) (hosts : List ℕ) (asked : Ask → Type 0) (found : Compared) (new : List Row) : Type 0 where
   pub kept : (c : Cell) (f : Compared) → Finds old c f → Finds new c f
-  pub added : (c : Cell) → (c.user ≡ user) × (c.host ≡ host) × asked c.ask → (f : Compared) × Finds new c f
-  pub only : (c : Cell) (f : Compared) → Finds new c f →
-      Finds old c f ⊎ ((c.user ≡ user) × (c.host ≡ host) × asked c.ask × IsCopy found f)
+  pub added : (c : Cell) → IsOnAmong user hosts asked c → (f : Compared) × Finds new c f
+  pub only : (c : Cell) (f : Compared) → Finds new c f → Finds old c f ⊎ (IsOnAmong user hosts asked c × IsCopy found f)
 
 -- the row with its hosts and its targets in another order
 pub record IsOrdered (r s : Row) : Type 0 where
@@ -83,13 +81,8 @@ pub record AbsorbsAll (old more new : List Row) : Type 0 where
   pub added : (c : Cell) (f : Compared) → Finds more c f → Finds new c f
   pub only : (c : Cell) (f : Compared) → Finds new c f → Finds old c f ⊎ Finds more c f
 
--- the rows, some of them as one: all are of the users and hosts of these
-pub record AreGrouped (rows new : List Row) : Type 0 where
-  pub absorbed : AbsorbsAll [] rows new
-  pub of_spot : (user host : ℕ) → All (IsOfSpot user host) rows → All (IsOfSpot user host) new
-
 -- the rows with their hosts and targets in another order, and then some of them as one
 pub record AreMerged (rows new : List Row) : Type 0 where
   pub ordered : List Row
   pub are_ordered : AreOrdered rows ordered
-  pub are_grouped : AreGrouped ordered new
+  pub are_grouped : AbsorbsAll [] ordered new
