@@ -194,9 +194,9 @@ alone-added ws w ask only has = record {
 decide-same : (p : Pair) (u : Person) (a : Ask) (l j : Listed) → AreSameBlocks j l → Decide p u a l → Decide p u a j
 decide-same p u a l j same decide = record {
   old = λ m. decide.old m
-      ∙ ap (λ (is : List ℕ). chosen p.old.blocks.items (filter (host_at p.old.checked.now p.old.blocks.items m) is)) (sym same.0);
+      ∙ ap (λ (is : List ℕ). chosen p.parts.old.items (filter (host_at p.old.checked.now p.old.blocks.items m) is)) (sym same.0);
   new = λ m. decide.new m
-      ∙ ap (λ (is : List ℕ). chosen p.new.blocks.items (filter (host_at p.new.checked.now p.new.blocks.items m) is)) (sym same.1);
+      ∙ ap (λ (is : List ℕ). chosen p.parts.new.items (filter (host_at p.new.checked.now p.new.blocks.items m) is)) (sym same.1);
 }
 
 -- a class with a further ask that the same blocks decide

@@ -58,7 +58,7 @@ last-kept f g keeps (x ∷ xs) = by (last-kept f g keeps xs) (f x) refl (g x) re
         ∙ sym (ap (λ v. option_or (last_that f xs) (cond v (Some x) None)) is ∙ option_or-none (last_that f xs))
     by rest true is false kept = let bad : true ≡ false = sym (keeps x is) ∙ kept in cc
 
-near-decide : (changed ds : List Decider) (c x : List ℕ) → is_fitted changed c x ≡ true →
+pub near-decide : (changed ds : List Decider) (c x : List ℕ) → is_fitted changed c x ≡ true →
     verdict_among (filter (is_near changed) ds) c x ≡ verdict_among ds c x
 near-decide changed ds c x e =
     ap answered_if_any (last-kept (λ d. command_fits d.atom c x) (is_near changed) (λ d fits. near-fits changed d c x e fits) ds)

@@ -1,6 +1,6 @@
 -- The comparison on a host holds on each host on which the same blocks list the user.
-use Rattle.std.proofs.Common.{◌≡◌, ◌∙◌, inl, inr, ℕ, Bool, true, false, cond, ◌&&◌, ◌||◌, List, [], ◌∷◌, ◌++◌, ap, arith, refl, sym}
-use Rattle.std.proofs.Common.{◌<◌, ◌+◌, ◌⊎◌, All, Global, Option, Some, Vec, get_or, length, map, subst, suc, take, zero}
+use Rattle.std.proofs.Common.{◌≡◌, ◌∙◌, inl, inr, ℕ, Bool, true, false, cond, ◌||◌, List, [], ◌∷◌, ◌++◌, ap, arith, refl, sym}
+use Rattle.std.proofs.Common.{◌<◌, ◌+◌, ◌⊎◌, Global, Option, Some, Vec, get_or, length, subst, suc, take, zero}
 use Rattle.std.specs.Prelude.{◌==◌, slice_set}
 use Rattle.std.specs.List.{list_all, list_any}
 use Rattle.std.proofs.lemmas.Bool.{and_parts, eqb-true, or_cases, or_left, or_right}
@@ -18,28 +18,25 @@ use Rattle.review_compare.specs.declared.cell.Ask.{Ask}
 use Rattle.review_compare.specs.declared.cell.Cell.{Cell}
 use Rattle.review_compare.specs.declared.host_class.HostClass.{HostClass}
 use Rattle.review_compare.specs.declared.compared.Compared.{Compared}
-use Rattle.review_compare.specs.declared.compared.Compared.TheVariants as compared
 use Rattle.review_compare.specs.declared.pair.Pair.{Pair}
 use Rattle.review_compare.specs.declared.row.Row.{Row}
 use Rattle.review_compare.specs.declared.spot.Listed.{Listed}
 use Rattle.review_compare.specs.declared.spot.Spot.{Spot}
-use Rattle.review_compare.specs.Cells.{Decider, SaySame, deciders}
-use Rattle.review_compare.specs.Compared.{said}
-use Rattle.review_compare.specs.Differences.{Finds, FoundIf, IsDone, IsFound, SameIf, has_cell, known_at, question_at, same_number}
+use Rattle.review_compare.specs.Cells.{Decider, deciders}
+use Rattle.review_compare.specs.Differences.{FoundIf, IsDone, IsFound, known_at, question_at}
 use Rattle.review_compare.specs.Witnesses.{IsCompared}
 use Rattle.review_compare.specs.Body.Chosen.{AreListed, deciders_at, listed_at, runas_at, standing_at}
 use Rattle.review_compare.specs.Body.ChangedRows.{AreChanged}
-use Rattle.review_compare.specs.Body.AskClasses.{AreAsked}
+use Rattle.review_compare.specs.Body.AskClasses.{AreAsked, changed_by}
 use Rattle.review_compare.specs.Body.Near.{each_one, near_deciders}
 use Rattle.review_compare.specs.Body.Classes.{AddsCells, AddsHosts, AreRightIn, AreSameBlocks, HaveHost, IsClass, IsClassed}
 use Rattle.review_compare.specs.Body.Classes.{IsOnClasses, IsWith}
 use Rattle.review_compare.specs.Body.Merged.{IsOnAmong, is_among}
 use Rattle.review_compare.specs.Body.Progress.{AreListedIn, IsBefore, IsOnAsked, IsOnEach, IsSpot, Progress, cell_at}
 use Rattle.review_compare.specs.Body.Progress.{question_of}
-use Rattle.review_compare.proofs.CellLemmas.{rows_decide, rows_say_same}
 use Rattle.review_compare.proofs.ChosenLemmas.{stands-at}
 use Rattle.review_compare.proofs.DifferenceLemmas.{spot-question, went-on}
-use Rattle.review_compare.proofs.NearLemmas.{changed_by, compared-moved, near_new, near_old, pair-all}
+use Rattle.review_compare.proofs.NearLemmas.{compared-moved, near_new, near_old, pair-all}
 use Rattle.review_compare.proofs.UnchangedLemmas.{less-or, other-host-runas}
 
 -- ---- The near blocks that stand on two hosts

@@ -5,7 +5,7 @@ use Rattle.std.proofs.Common.{ap, arith, flat_map, map, refl, subst, sym, length
 use Rattle.std.specs.Prelude.{filter, slice_get}
 use Rattle.std.specs.List.{list_any, range_with_len}
 use Rattle.std.specs.Option.{option_or}
-use Rattle.std.proofs.lemmas.List.Elements.{All-weaker}
+use Rattle.std.proofs.lemmas.List.Elements.{All-weaker, filter-append}
 use Rattle.std.proofs.lemmas.List.Folds.{list_any-append}
 use Rattle.sudo_grammar.specs.declared.kind.Atom.{Atom}
 use Rattle.sudo_grammar.specs.declared.policy.Policy.{Policy}
@@ -29,9 +29,10 @@ use Rattle.review_compare.specs.Compared.{said, same_answer, same_choice, same_c
 use Rattle.review_compare.specs.Witnesses.{IsCompared, IsWitness}
 use Rattle.review_compare.specs.Body.ChangedRows.{AreChanged, is_fitted, is_near}
 use Rattle.review_compare.specs.Body.Chosen.{chosen, deciders_at, deciders_if, deciders_of, standing_if}
-use Rattle.review_compare.specs.Body.Near.{changed_rows, has_near, if_near, middle, near_at, near_deciders}
+use Rattle.review_compare.specs.Body.AskClasses.{changed_by, kept_new, kept_old}
+use Rattle.review_compare.specs.Body.Near.{AreParts, HaveParts, changed_rows, has_near, if_near, middle, near_at, near_deciders, near_of}
 use Rattle.review_compare.specs.Body.Unchanged.{AreCommon}
-use Rattle.review_compare.proofs.ChangedLemmas.{near-fits, or-parts, unfitted}
+use Rattle.review_compare.proofs.ChangedLemmas.{near-decide, near-fits, or-parts, unfitted}
 use Rattle.review_compare.proofs.ChosenLemmas.{all-stand, blocks-decide}
 use Rattle.review_compare.proofs.UnchangedLemmas.{joined, mapped-flat, pairwise}
 
@@ -90,6 +91,68 @@ near-alike changed ds es e =
     by : (b : Bool) → map ruling_by (cond b ds []) ≡ map ruling_by (cond b es [])
     by true = e
     by false = refl
+
+-- the near ones of rows that are alike are alike
+filter-ruled : (changed ds : List Decider) → map ruling_by (near_of changed ds) ≡ filter (near_ruling changed) (map ruling_by ds)
+filter-ruled changed [] = refl
+filter-ruled changed (d ∷ ds) =
+    by (is_near changed d)
+    ∙ ap (λ (rs : List (Ruling Atom (Option Tags))). cond (is_near changed d) (ruling_by d ∷ rs) rs) (filter-ruled changed ds)
+  where
+    by : (b : Bool) → map ruling_by (cond b (d ∷ near_of changed ds) (near_of changed ds))
+        ≡ cond b (ruling_by d ∷ map ruling_by (near_of changed ds)) (map ruling_by (near_of changed ds))
+    by true = refl
+    by false = refl
+
+filter-alike : (changed ds es : List Decider) → map ruling_by ds ≡ map ruling_by es →
+    map ruling_by (near_of changed ds) ≡ map ruling_by (near_of changed es)
+filter-alike changed ds es e =
+    filter-ruled changed ds ∙ ap (filter (near_ruling changed)) e ∙ sym (filter-ruled changed es)
+
+filter-unfitted : (changed ds : List Decider) (c x : List ℕ) → is_fitted ds c x ≡ false → is_fitted (near_of changed ds) c x ≡ false
+filter-unfitted changed [] c x e = refl
+filter-unfitted changed (d ∷ ds) c x e =
+    let both = or-parts (command_fits d.atom c x) (is_fitted ds c x) e in
+    by both.0 (filter-unfitted changed ds c x both.1) (is_near changed d)
+  where
+    by : command_fits d.atom c x ≡ false → is_fitted (near_of changed ds) c x ≡ false → (b : Bool) →
+        is_fitted (cond b (d ∷ near_of changed ds) (near_of changed ds)) c x ≡ false
+    by own rest true = ap (λ v. v || is_fitted (near_of changed ds) c x) own ∙ rest
+    by own rest false = rest
+
+-- the near ones of the rows of blocks, block by block
+filter-flat : (changed : List Decider) (f : ℕ → List Decider) (is : List ℕ) →
+    near_of changed (flat_map f is) ≡ flat_map (λ i. near_of changed (f i)) is
+filter-flat changed f [] = refl
+filter-flat changed f (i ∷ is) =
+    filter-append (is_near changed) (f i) (flat_map f is)
+    ∙ ap (λ (ds : List Decider). near_of changed (f i) ++ ds) (filter-flat changed f is)
+
+-- what the blocks with their near rows alone answer
+pub part-at : (changed : List Decider) (bs parts : List Block) → AreParts changed bs parts → (i : ℕ) →
+    near_of changed (deciders_at bs i) ≡ deciders_at parts i
+part-at changed [] [] are i = refl
+part-at changed [] (q ∷ parts) are i = absurd are
+part-at changed (b ∷ bs) [] are i = absurd are
+part-at changed (b ∷ bs) (q ∷ parts) are zero = sym are.0
+part-at changed (b ∷ bs) (q ∷ parts) are (suc i) = part-at changed bs parts are.1 i
+
+pub parts-chosen : (changed : List Decider) (bs parts : List Block) → HaveParts changed bs parts → (is : List ℕ) →
+    near_of changed (chosen bs is) ≡ chosen parts is
+parts-chosen changed bs parts are is = filter-flat changed (deciders_at bs) is ∙ each is
+  where
+    each : (is : List ℕ) → flat_map (λ i. near_of changed (deciders_at bs i)) is ≡ chosen parts is
+    each [] = refl
+    each (i ∷ is) =
+        ap (λ (ds : List Decider). ds ++ flat_map (λ i. near_of changed (deciders_at bs i)) is) (are i)
+        ∙ ap (λ (ds : List Decider). deciders_at parts i ++ ds) (each is)
+
+pub parts-more : (changed : List Decider) (bs parts : List Block) (b part : Block) → AreParts changed bs parts →
+    deciders_of part ≡ near_of changed (deciders_of b) → AreParts changed (bs ++ b ∷ []) (parts ++ part ∷ [])
+parts-more changed [] [] b part are is = (is, tt)
+parts-more changed [] (q ∷ parts) b part are is = absurd are
+parts-more changed (d ∷ bs) [] b part are is = absurd are
+parts-more changed (d ∷ bs) (q ∷ parts) b part are is = (are.0, parts-more changed bs parts b part are.1 is)
 
 -- ---- Rows that are alike but for the middle
 
@@ -302,22 +365,45 @@ module _ (p r : Policy) (bs cs : List Block) (k : Common) (common : AreCommon p 
         ∙ ap (λ (ds : List Decider). verdict_among ds c x) (all-its also);
   }
 
-  -- and for themselves
-  near-of-near : AreChanged (near_deciders p bs (near_at rows_changed bs) q) (near_deciders r cs (near_at rows_changed cs) q) rows_changed
-      (near_deciders p bs (near_at rows_changed bs) q) (near_deciders r cs (near_at rows_changed cs) q)
-  near-of-near = record {
+  abbrev kept_own : ℕ → List Decider
+  kept_own i = near_of rows_changed (if_near rows_changed (own i))
+
+  abbrev kept_its : ℕ → List Decider
+  kept_its i = near_of rows_changed (if_near rows_changed (its i))
+
+  all-kept-own : near_of rows_changed (near_deciders p bs (near_at rows_changed bs) q) ≡ flat_map kept_own (range_with_len 0 (length bs))
+  all-kept-own =
+      ap (near_of rows_changed) near-own ∙ filter-flat rows_changed (λ i. if_near rows_changed (own i)) (range_with_len 0 (length bs))
+
+  all-kept-its : near_of rows_changed (near_deciders r cs (near_at rows_changed cs) q) ≡ flat_map kept_its (range_with_len 0 (length cs))
+  all-kept-its =
+      ap (near_of rows_changed) near-its ∙ filter-flat rows_changed (λ i. if_near rows_changed (its i)) (range_with_len 0 (length cs))
+
+  kept-outside : AlikeOutside kept_own kept_its (length bs) (length cs) k
+  kept-outside =
+      let all = near-outside in (
+        λ i less. filter-alike rows_changed (if_near rows_changed (own i)) (if_near rows_changed (its i)) (all.0 i less),
+        λ i less. filter-alike rows_changed (if_near rows_changed (own (length bs - i - 1)))
+            (if_near rows_changed (its (length cs - i - 1))) (all.1 i less),
+      )
+
+  -- and so do their near rows for themselves
+  kept-of-kept : AreChanged (near_of rows_changed (near_deciders p bs (near_at rows_changed bs) q))
+      (near_of rows_changed (near_deciders r cs (near_at rows_changed cs) q)) rows_changed
+      (near_of rows_changed (near_deciders p bs (near_at rows_changed bs) q))
+      (near_of rows_changed (near_deciders r cs (near_at rows_changed cs) q))
+  kept-of-kept = record {
     others = λ c x e.
-        ap (λ (ds : List Decider). said (verdict_among ds c x)) near-own
-        ∙ alike-but (λ i. if_near rows_changed (own i)) (λ i. if_near rows_changed (its i)) (length bs) (length cs) k common.within_old
-        common.within_new near-outside c x (λ i low high. if-near-unfitted rows_changed (own i) c x (own-unfitted c x e i low high))
-        (λ i low high. if-near-unfitted rows_changed (its i) c x (its-unfitted c x e i low high))
-        ∙ sym (ap (λ (ds : List Decider). said (verdict_among ds c x)) near-its);
+        ap (λ (ds : List Decider). said (verdict_among ds c x)) all-kept-own
+        ∙ alike-but kept_own kept_its (length bs) (length cs) k common.within_old common.within_new kept-outside c x
+        (λ i low high. filter-unfitted rows_changed (if_near rows_changed (own i)) c x
+        (if-near-unfitted rows_changed (own i) c x (own-unfitted c x e i low high)))
+        (λ i low high. filter-unfitted rows_changed (if_near rows_changed (its i)) c x
+        (if-near-unfitted rows_changed (its i) c x (its-unfitted c x e i low high)))
+        ∙ sym (ap (λ (ds : List Decider). said (verdict_among ds c x)) all-kept-its);
     old = λ c x e. refl;
     new = λ c x e. refl;
   }
-
-abbrev pub changed_by : Pair → List Decider
-changed_by p = changed_rows p.common p.old.blocks.items p.new.blocks.items
 
 abbrev pub near_old : Pair → Question → List Decider
 near_old p q = near_deciders p.old.checked.now p.old.blocks.items p.near.old.items q
@@ -338,16 +424,26 @@ pair-all p q =
     (subst (λ (is : List ℕ). AreChanged ds es (changed_by p) (old (near_at (changed_by p) bs)) (new is)) (sym p.are_near.new)
     (near-of-all p.old.checked.now p.new.checked.now bs cs p.common p.are_common q p.old.are_blocks p.new.are_blocks))
 
-pub pair-near : (p : Pair) (q : Question) → AreChanged (near_old p q) (near_new p q) (changed_by p) (near_old p q) (near_new p q)
-pair-near p q =
-    let old : List ℕ → List Decider = λ is. near_deciders p.old.checked.now p.old.blocks.items is q in
-    let new : List ℕ → List Decider = λ is. near_deciders p.new.checked.now p.new.blocks.items is q in
+pub pair-kept : (p : Pair) (q : Question) → AreChanged (kept_old p q) (kept_new p q) (changed_by p) (kept_old p q) (kept_new p q)
+pair-kept p q =
+    let old : List ℕ → List Decider = λ is. near_of (changed_by p) (near_deciders p.old.checked.now p.old.blocks.items is q) in
+    let new : List ℕ → List Decider = λ is. near_of (changed_by p) (near_deciders p.new.checked.now p.new.blocks.items is q) in
     let bs = p.old.blocks.items in
     let cs = p.new.blocks.items in
-    subst (λ (is : List ℕ). AreChanged (old is) (near_new p q) (changed_by p) (old is) (near_new p q)) (sym p.are_near.old)
+    subst (λ (is : List ℕ). AreChanged (old is) (kept_new p q) (changed_by p) (old is) (kept_new p q)) (sym p.are_near.old)
     (subst (λ (is : List ℕ). AreChanged (old (near_at (changed_by p) bs)) (new is) (changed_by p) (old (near_at (changed_by p) bs))
     (new is)) (sym p.are_near.new)
-    (near-of-near p.old.checked.now p.new.checked.now bs cs p.common p.are_common q))
+    (kept-of-kept p.old.checked.now p.new.checked.now bs cs p.common p.are_common q))
+
+pub pair-kept-all : (p : Pair) (q : Question) → AreChanged (deciders p.old.checked.now q) (deciders p.new.checked.now q) (changed_by p)
+    (kept_old p q) (kept_new p q)
+pair-kept-all p q =
+    let all = pair-all p q in
+    record {
+      others = all.others;
+      old = λ c x e. near-decide (changed_by p) (near_old p q) c x e ∙ all.old c x e;
+      new = λ c x e. near-decide (changed_by p) (near_new p q) c x e ∙ all.new c x e;
+    }
 
 -- ---- The outcome for some rows, and for others with the same near rows
 

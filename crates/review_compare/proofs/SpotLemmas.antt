@@ -21,7 +21,8 @@ use Rattle.review_compare.specs.declared.spot.Spot.{Spot}
 use Rattle.review_compare.specs.Cells.{Decider, deciders}
 use Rattle.review_compare.specs.Differences.{Finds, FoundIf, IsDone, IsFound, SameIf, has_cell, question_at, same_number}
 use Rattle.review_compare.specs.Witnesses.{IsCompared}
-use Rattle.review_compare.specs.Body.AskClasses.{AreAsked, HaveAsk, IsAskClass, IsAskedWith, on_new, on_old}
+use Rattle.review_compare.specs.Body.AskClasses.{AreAsked, HaveAsk, IsAskClass, IsAskedWith, changed_by, kept_new, kept_old, on_new}
+use Rattle.review_compare.specs.Body.AskClasses.{on_old}
 use Rattle.review_compare.specs.Body.Comparisons.{IsCopy}
 use Rattle.review_compare.specs.Body.Classes.{AreRightIn, IsRightIn}
 use Rattle.review_compare.specs.Body.Merged.{Absorbs, AddsFound, AreMerged, AreOrdered, IsOnAmong, IsOrdered, IsRowOf, is_among}
@@ -30,7 +31,7 @@ use Rattle.review_compare.proofs.AskLemmas.{asked-cases, asked-first, asked-last
 use Rattle.review_compare.proofs.CellLemmas.{rows_say_same}
 use Rattle.review_compare.proofs.ClassLemmas.{asked-here, or-false, same-self, single}
 use Rattle.review_compare.proofs.DifferenceLemmas.{all-added, nothing-added, numbers-same, went-on}
-use Rattle.review_compare.proofs.NearLemmas.{changed_by, compared-moved, near_new, near_old, pair-all, pair-near}
+use Rattle.review_compare.proofs.NearLemmas.{compared-moved, pair-kept, pair-kept-all}
 use Rattle.review_compare.proofs.UnchangedLemmas.{less-or}
 
 -- ---- The cells of a row
@@ -146,9 +147,9 @@ class-compared : (p : Pair) (s : Spot) (k : AskClass) (f : Compared) → IsAskCl
 class-compared p s k f class is a asked =
     let q = question_of p s a in
     let decide = class a asked in
-    compared-moved (near_old p q) (near_new p q) (deciders p.old.checked.now q) (deciders p.new.checked.now q) (changed_by p)
-    (near_old p q) (near_new p q) (pair-near p q) (pair-all p q) f
-    (subst (λ (ds : List Decider). IsCompared ds (near_new p q) f) (sym (decide.old s.machine.now))
+    compared-moved (kept_old p q) (kept_new p q) (deciders p.old.checked.now q) (deciders p.new.checked.now q) (changed_by p)
+    (kept_old p q) (kept_new p q) (pair-kept p q) (pair-kept-all p q) f
+    (subst (λ (ds : List Decider). IsCompared ds (kept_new p q) f) (sym (decide.old s.machine.now))
     (subst (λ (es : List Decider). IsCompared (on_old p s.machine.now k.allowing) es f) (sym (decide.new s.machine.now)) is))
 
 -- and so it is in each of its cells at the spot

@@ -57,18 +57,18 @@ fn index_of(comparisons: &[Comparison], old: &[usize], new: &[usize]) -> Option<
     None
 }
 
-// Compares the rows of the blocks at these indices.
+// Compares the near rows of the blocks at these indices.
 fn compared_blocks(
     alloc: Global,
     pair: &Pair<'_>,
     old: &[usize],
     new: &[usize],
 ) -> Result<Compared, AllocError>
-    ensures { IfOk result (IsCompared (chosen pair.now.old.blocks.items old.now)
-        (chosen pair.now.new.blocks.items new.now)) }
+    ensures { IfOk result (IsCompared (chosen pair.now.parts.old.items old.now)
+        (chosen pair.now.parts.new.items new.now)) }
 {
-    let old_rows = rows_at(alloc, &pair.old.blocks, old)?;
-    let new_rows = rows_at(alloc, &pair.new.blocks, new)?;
+    let old_rows = rows_at(alloc, &pair.parts.old, old)?;
+    let new_rows = rows_at(alloc, &pair.parts.new, new)?;
     compared_rows(alloc, &old_rows, &new_rows)
 }
 
@@ -81,8 +81,8 @@ fn first_found(
     new: Vec<usize>,
 ) -> Result<Compared, AllocError>
     requires { All (body.IsRight pair.now) comparisons.old.items }
-    ensures found { IfOk result (IsCompared (chosen pair.entry.now.old.blocks.items
-        old.items) (chosen pair.entry.now.new.blocks.items new.items)) }
+    ensures found { IfOk result (IsCompared (chosen pair.entry.now.parts.old.items
+        old.items) (chosen pair.entry.now.parts.new.items new.items)) }
     ensures right { OnOk result (All (body.IsRight pair.entry.now) comparisons.new.items) }
 {
     let found = compared_blocks(alloc, pair, &old, &new)?;
@@ -101,8 +101,8 @@ pub(crate) fn found_of(
     new: Vec<usize>,
 ) -> Result<Compared, AllocError>
     requires { All (body.IsRight pair.now) comparisons.old.items }
-    ensures found { IfOk result (IsCompared (chosen pair.entry.now.old.blocks.items
-        old.items) (chosen pair.entry.now.new.blocks.items new.items)) }
+    ensures found { IfOk result (IsCompared (chosen pair.entry.now.parts.old.items
+        old.items) (chosen pair.entry.now.parts.new.items new.items)) }
     ensures right { OnOk result (All (body.IsRight pair.entry.now) comparisons.new.items) }
 {
     match index_of(comparisons, &old, &new) {

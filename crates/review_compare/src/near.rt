@@ -1,16 +1,20 @@
 //! The blocks near a change: those with a row that may fit a command that a row of a block between the common prefix and suffix
-//! fits. The comparison of the rows of these blocks holds for all rows.
-ghost use Rattle.std.specs.Prelude.{◌≡◌, ◌++◌, IfOk, OnOk};
+//! fits. The comparison of such rows of these blocks holds for all rows.
+ghost use Rattle.std.specs.Prelude.{◌≡◌, ◌++◌, ◌∷◌, [], IfOk, map, OnOk};
+ghost use Rattle.review_compare.specs.Body.Chosen.{deciders_of};
 ghost use Rattle.review_compare.specs.Body.Near as body;
 ghost use Rattle.review_compare.specs.Body.Shown.{all_shown};
 
-use crate::block::Block;
+use crate::block::{Block, BlockRow};
 use crate::changed::is_near;
 use crate::common::Common;
 use crate::ruling::Ruled;
+use crate::shape::Shape;
 use crate::side::{Side, push_if, rows_at};
 use crate::spot::Listed;
+use crate::text::atom_copied;
 use std::alloc::{AllocError, Global};
+use sudo_text::Place;
 
 // Returns the indices of the blocks between the common prefix and suffix.
 fn middle(alloc: Global, blocks: &[Block<'_>], common: Common) -> Result<Vec<usize>, AllocError>
@@ -79,6 +83,101 @@ fn near_blocks(
         push_if(&mut near, index, has_near(changed, &rows))?;
     }
     Ok(near)
+}
+
+// Appends a copy of a row of a block at the place, if it is near the changed ones.
+fn push_near(
+    alloc: Global,
+    changed: &[Ruled<'_>],
+    place: Place,
+    row: &BlockRow,
+    near: &mut Vec<BlockRow>,
+) -> Result<(), AllocError>
+    ensures { OnOk result (map (body.row_decider place) near.new.items
+        ≡ map (body.row_decider place) near.old.items
+        ++ body.near_of (all_shown changed.now) (body.row_decider place row.now ∷ [])) }
+{
+    let ruled = Ruled {
+        place,
+        answer: row.answer,
+        shape: &row.shape,
+    };
+    if is_near(changed, &ruled) {
+        let atom = atom_copied(alloc, &row.shape.atom)?;
+        let shape = Shape::of(alloc, atom)?;
+        near.push(BlockRow {
+            answer: row.answer,
+            shape,
+        })?;
+    }
+    Ok(())
+}
+
+// Returns the block with its near rows alone.
+fn near_part<'a>(
+    alloc: Global,
+    changed: &[Ruled<'_>],
+    block: &Block<'a>,
+) -> Result<Block<'a>, AllocError>
+    ensures { IfOk result (λ part. deciders_of part
+        ≡ body.near_of (all_shown changed.now) (deciders_of block.now)) }
+{
+    let mut rows = Vec::new(alloc);
+    for row in &block.rows {
+        push_near(alloc, changed, block.place, row, &mut rows)?;
+    }
+    Ok(Block {
+        place: block.place,
+        users: block.users,
+        hosts: block.hosts,
+        runas: block.runas,
+        rows,
+    })
+}
+
+// Returns the blocks, each with its near rows alone.
+fn near_parts<'a>(
+    alloc: Global,
+    changed: &[Ruled<'_>],
+    blocks: &[Block<'a>],
+) -> Result<Vec<Block<'a>>, AllocError>
+    ensures { IfOk result (λ parts. body.AreParts (all_shown changed.now) blocks.now
+        parts.items) }
+{
+    let mut parts = Vec::new(alloc);
+    for block in blocks {
+        let part = near_part(alloc, changed, block)?;
+        parts.push(part)?;
+    }
+    Ok(parts)
+}
+
+/// The blocks of both policies, each with its near rows alone.
+#[derive(Drop)]
+pub(crate) struct Parts<'a> {
+    pub(crate) old: Vec<Block<'a>>,
+    pub(crate) new: Vec<Block<'a>>,
+}
+
+/// Returns the blocks of both policies, each with its rows near a change alone. Returns `AllocError` if allocation fails.
+pub(crate) fn parts_near<'a>(
+    alloc: Global,
+    old: &Side<'a>,
+    new: &Side<'a>,
+    common: Common,
+) -> Result<Parts<'a>, AllocError>
+    ensures old { IfOk result (λ parts. body.HaveParts (body.changed_rows common
+        old.now.blocks.items new.now.blocks.items) old.now.blocks.items parts.old.items) }
+    ensures new { IfOk result (λ parts. body.HaveParts (body.changed_rows common
+        old.now.blocks.items new.now.blocks.items) new.now.blocks.items parts.new.items) }
+{
+    let changed = changed_rows(alloc, &old.blocks, &new.blocks, common)?;
+    let old_parts = near_parts(alloc, &changed, &old.blocks)?;
+    let new_parts = near_parts(alloc, &changed, &new.blocks)?;
+    Ok(Parts {
+        old: old_parts,
+        new: new_parts,
+    })
 }
 
 /// Returns the indices of the blocks of both policies that are near a change. Returns `AllocError` if allocation fails.

@@ -5,13 +5,13 @@ ghost use Rattle.sudo_match.specs.declared.people.Person.{Person as ThePerson};
 ghost use Rattle.sudo_verdict.specs.Questions.{Question, question_as};
 ghost use Rattle.review_compare.specs.Cells.{SaySame};
 ghost use Rattle.review_compare.specs.Differences.{known_at};
-ghost use Rattle.review_compare.specs.Body.Near.{AreNear};
+ghost use Rattle.review_compare.specs.Body.Near.{AreNear, HaveParts, changed_rows};
 ghost use Rattle.review_compare.specs.Body.Unchanged.{AreCommon};
 
 use crate::asks::{group_at, person_at};
 use crate::cell::Ask;
 use crate::common::{Common, common_of};
-use crate::near::near_change;
+use crate::near::{Parts, near_change, parts_near};
 use crate::side::Side;
 use crate::spot::Listed;
 use std::alloc::{AllocError, Global};
@@ -19,7 +19,7 @@ use sudo_match::{Directory, Group, Machine, Person};
 use sudo_policy::Checked;
 use sudo_verdict::Asker;
 
-/// Two policies, with the known users, hosts and groups, and the blocks near a change.
+/// Two policies, with the known users, hosts and groups, the blocks near a change, and the blocks with their near rows alone.
 #[derive(Drop)]
 pub(crate) struct Pair<'a> {
     pub(crate) old: Side<'a>,
@@ -28,9 +28,14 @@ pub(crate) struct Pair<'a> {
     pub(crate) groups: &'a [Group],
     pub(crate) common: Common,
     pub(crate) near: Listed,
+    pub(crate) parts: Parts<'a>,
     ghost are_common: { AreCommon old.checked.now old.blocks.items new.checked.now
         new.blocks.items common },
     ghost are_near: { AreNear common old.blocks.items new.blocks.items near },
+    ghost old_parts: { HaveParts (changed_rows common old.blocks.items new.blocks.items)
+        old.blocks.items parts.old.items },
+    ghost new_parts: { HaveParts (changed_rows common old.blocks.items new.blocks.items)
+        new.blocks.items parts.new.items },
 }
 
 impl<'a> Pair<'a> {
@@ -51,6 +56,7 @@ impl<'a> Pair<'a> {
         let new = Side::of(alloc, new)?;
         let common = common_of(alloc, &old, &new)?;
         let near = near_change(alloc, &old, &new, common)?;
+        let parts = parts_near(alloc, &old, &new, common)?;
         Ok(Pair {
             old,
             new,
@@ -58,6 +64,7 @@ impl<'a> Pair<'a> {
             groups,
             common,
             near,
+            parts,
         })
     }
 }

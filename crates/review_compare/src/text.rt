@@ -257,8 +257,8 @@ fn push_witness(
     push_verdicts(alloc, text, files, &witness.old, &witness.new)
 }
 
-// Returns a copy of an atom.
-fn atom_copied(alloc: Global, atom: &Atom) -> Result<Atom, AllocError>
+/// Returns a copy of an atom. Returns `AllocError` if allocation fails.
+pub(crate) fn atom_copied(alloc: Global, atom: &Atom) -> Result<Atom, AllocError>
     ensures { IfOk result (λ copy. copy ≡ atom.now) }
 {
     match atom {

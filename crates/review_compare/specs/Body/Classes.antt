@@ -8,7 +8,6 @@ use Rattle.review_compare.specs.declared.compared.Compared.{Compared}
 use Rattle.review_compare.specs.declared.host_class.HostClass.{HostClass}
 use Rattle.review_compare.specs.declared.pair.Pair.{Pair}
 use Rattle.review_compare.specs.declared.spot.Listed.{Listed}
-use Rattle.review_compare.specs.declared.spot.Spot.{Spot}
 use Rattle.review_compare.specs.Differences.{IsFound, SameIf, question_at}
 use Rattle.review_compare.specs.Body.AskClasses.{AreAsked}
 use Rattle.review_compare.specs.Body.Merged.{IsOnAmong, is_among}

@@ -11,9 +11,9 @@ use Rattle.review_compare.specs.Body.Chosen.{chosen}
 abbrev pub IsOf : Comparison → List ℕ → List ℕ → Type 0
 IsOf k old new = (k.old.items ≡ old) × (k.new.items ≡ new)
 
--- the outcome is right for the rows of the blocks
+-- the outcome is right for the near rows of the blocks
 abbrev pub IsRight : Pair → Comparison → Type 0
-IsRight p k = IsCompared (chosen p.old.blocks.items k.old.items) (chosen p.new.blocks.items k.new.items) k.found
+IsRight p k = IsCompared (chosen p.parts.old.items k.old.items) (chosen p.parts.new.items k.new.items) k.found
 
 -- the copy of an outcome is right for the same rows
 abbrev pub IsCopy : Compared → Compared → Type 0

@@ -1,14 +1,16 @@
 -- The blocks near a change: those with a row that may fit a command that a changed row fits; only proofs of bodies need these.
-use Rattle.std.specs.Prelude.{◌≡◌, ◌-◌, ◌++◌, ℕ, Bool, true, if◌then◌else◌, List, [], filter, length}
+use Rattle.std.specs.Prelude.{◌≡◌, ◌-◌, ◌++◌, ◌∷◌, ℕ, Bool, true, if◌then◌else◌, List, [], filter, length}
 use Rattle.std.specs.List.{list_any, range_with_len}
 use Rattle.sudo_grammar.specs.declared.policy.Policy.{Policy}
 use Rattle.sudo_verdict.specs.Questions.{Question}
+use Rattle.sudo_text.specs.declared.line.Place.{Place}
 use Rattle.review_compare.specs.declared.block.Block.{Block}
+use Rattle.review_compare.specs.declared.block.BlockRow.{BlockRow}
 use Rattle.review_compare.specs.declared.common.Common.{Common}
 use Rattle.review_compare.specs.declared.spot.Listed.{Listed}
 use Rattle.review_compare.specs.Cells.{Decider}
 use Rattle.review_compare.specs.Body.ChangedRows.{is_near}
-use Rattle.review_compare.specs.Body.Chosen.{chosen, deciders_at, standing_among}
+use Rattle.review_compare.specs.Body.Chosen.{chosen, deciders_at, deciders_of, standing_among}
 
 -- the indices of the blocks between the common prefix and suffix
 abbrev pub middle : Common → List Block → List ℕ
@@ -34,6 +36,24 @@ near_at changed bs = filter (λ i. has_near changed (deciders_at bs i)) (range_w
 pub record AreNear (c : Common) (bs cs : List Block) (l : Listed) : Type 0 where
   pub old : l.old.items ≡ near_at (changed_rows c bs cs) bs
   pub new : l.new.items ≡ near_at (changed_rows c bs cs) cs
+
+-- what a row of a block at this place answers
+abbrev pub row_decider : Place → BlockRow → Decider
+row_decider place r = record { place = place; answer = r.answer; atom = r.shape.atom }
+
+-- the rows that are near
+abbrev pub near_of : List Decider → List Decider → List Decider
+near_of changed ds = filter (is_near changed) ds
+
+-- the blocks, each with its near rows alone
+abbrev pub AreParts : List Decider → List Block → List Block → Type 0
+AreParts changed [] [] = Unit {0}
+AreParts changed (b ∷ bs) (part ∷ parts) = (deciders_of part ≡ near_of changed (deciders_of b)) × AreParts changed bs parts
+AreParts changed _ _ = ⊥
+
+-- so it is, block by block
+abbrev pub HaveParts : List Decider → List Block → List Block → Type 0
+HaveParts changed bs parts = (i : ℕ) → near_of changed (deciders_at bs i) ≡ deciders_at parts i
 
 abbrev pub each_one : ℕ → Bool
 each_one i = true

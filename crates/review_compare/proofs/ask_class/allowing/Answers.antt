@@ -3,10 +3,14 @@ use Rattle.std.specs.Prelude.{filter}
 use Rattle.sudo_match.specs.declared.people.Group.{Group}
 use Rattle.sudo_match.specs.declared.people.Person.{Person}
 use Rattle.sudo_verdict.specs.Questions.{Question, question_as}
+use Rattle.review_compare.specs.Cells.{Decider}
 use Rattle.review_compare.specs.Differences.{known_at}
+use Rattle.review_compare.specs.Body.AskClasses.{changed_by}
 use Rattle.review_compare.specs.Body.Chosen.{chosen, host_at, runas_at}
+use Rattle.review_compare.specs.Body.Near.{near_of}
 use Rattle.review_compare.specs.Body.Progress.{ask_of}
 use Rattle.review_compare.proofs.AskLemmas.{near-stood}
+use Rattle.review_compare.proofs.NearLemmas.{parts-chosen}
 use Rattle.review_compare.proofs.ask_class.allowing.Goals as goal
 
 pub returns : goal.returns
@@ -30,11 +34,17 @@ returns c =
     c.deref-3.ensures.value ∙ ap (λ (q : Question). new_at q l.new.items) asked in
     record {
       old = λ m.
-          near-stood p.old.checked.now p.old.blocks.items d u first m t g p.near.old.items l.old.items c.requires.listed.old
+          ap (λ (ds : List Decider). near_of (changed_by p) ds)
+          (near-stood p.old.checked.now p.old.blocks.items d u first m t g p.near.old.items l.old.items c.requires.listed.old
           c.requires.listed.old_each
-          ∙ ap (λ (is : List ℕ). chosen p.old.blocks.items (filter (host_at p.old.checked.now p.old.blocks.items m) is)) (sym old);
+          ∙ ap (λ (is : List ℕ). chosen p.old.blocks.items (filter (host_at p.old.checked.now p.old.blocks.items m) is)) (sym old))
+          ∙ parts-chosen (changed_by p) p.old.blocks.items p.parts.old.items p.old_parts
+          (filter (host_at p.old.checked.now p.old.blocks.items m) c.in_ok-old.old.items);
       new = λ m.
-          near-stood p.new.checked.now p.new.blocks.items d u first m t g p.near.new.items l.new.items c.requires.listed.new
+          ap (λ (ds : List Decider). near_of (changed_by p) ds)
+          (near-stood p.new.checked.now p.new.blocks.items d u first m t g p.near.new.items l.new.items c.requires.listed.new
           c.requires.listed.new_each
-          ∙ ap (λ (is : List ℕ). chosen p.new.blocks.items (filter (host_at p.new.checked.now p.new.blocks.items m) is)) (sym new);
+          ∙ ap (λ (is : List ℕ). chosen p.new.blocks.items (filter (host_at p.new.checked.now p.new.blocks.items m) is)) (sym new))
+          ∙ parts-chosen (changed_by p) p.new.blocks.items p.parts.new.items p.new_parts
+          (filter (host_at p.new.checked.now p.new.blocks.items m) c.in_ok-new.new.items);
     }

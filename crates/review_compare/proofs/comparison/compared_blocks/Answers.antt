@@ -17,6 +17,6 @@ returns c =
     ∙ ap (λ (bs : List Block). chosen bs c.args.new.now) c.deref-2.ensures.value in
     IfOk-weaker c.compared_rows.result _ _
     (λ (f : Compared) is.
-    subst (λ (ds : List Decider). IsCompared ds (chosen c.args.pair.now.new.blocks.items c.args.new.now) f) old
+    subst (λ (ds : List Decider). IsCompared ds (chosen c.args.pair.now.parts.new.items c.args.new.now) f) old
     (subst (λ (es : List Decider). IsCompared (all_shown c.deref-3.result.now) es f) new is))
     c.compared_rows.ensures

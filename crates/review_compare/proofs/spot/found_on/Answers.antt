@@ -16,8 +16,8 @@ returns c =
     record {
       found = IfOk-weaker c.found_of.result _ _
           (λ (f : Compared) is.
-          subst (λ (is : List ℕ). IsCompared (chosen p.old.blocks.items is) (on_new p m c.args.class.now.allowing) f) old
-          (subst (λ (js : List ℕ). IsCompared (chosen p.old.blocks.items c.in_ok-old.old.items) (chosen p.new.blocks.items js) f) new
+          subst (λ (is : List ℕ). IsCompared (chosen p.parts.old.items is) (on_new p m c.args.class.now.allowing) f) old
+          (subst (λ (js : List ℕ). IsCompared (chosen p.parts.old.items c.in_ok-old.old.items) (chosen p.parts.new.items js) f) new
           is))
           c.found_of.ensures.found;
       right = c.found_of.ensures.right;
