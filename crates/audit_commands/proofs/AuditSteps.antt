@@ -16,20 +16,11 @@ use Rattle.sudo_match.specs.KnownRows.{KnownRows}
 use Rattle.sudo_grammar.specs.declared.policy.Policy.{Policy}
 use Rattle.run_base.specs.declared.run_output.RunOutput.{RunOutput}
 use Rattle.run_base.specs.Loading.{IsChecked}
-use Rattle.audit_commands.specs.Auditing.{Answers, Given, IsAnswer, IsAudited, IsDirectory, IsNotAudited}
-use Rattle.audit_commands.specs.Auditing.{IsUnreported}
+use Rattle.audit_commands.specs.Auditing.{Answers, Given, IsAnswer, IsAnswerUnder, IsAudited, IsDirectory, IsNoAnswer}
+use Rattle.audit_commands.specs.Auditing.{IsNotAudited, IsUnreported}
 use Rattle.audit_commands.specs.Body.Auditing.{IsFaultNamed, IsPrintedReport}
 use Rattle.audit_commands.specs.declared.fault.ReportFault.{ReportFault}
 use Rattle.audit_commands.specs.declared.fault.ReportFault.TheVariants as reports
-
-no_report : (given : Given) (policy : Policy) (directory : KnownRows) (fault : ReportFault)
-    → IsChecked given.held given.path policy → IsDirectory given.users given.hosts directory
-    → IsUnreported policy directory given.sources given.readable_bytes given.workers fault → IsNotAudited given fault
-no_report given policy directory (reports.Requests named) is known h =
-    (policy, h.0, record { is_policy = is; directory = directory; is_directory = known; answers = h.1 }, h.2)
-no_report given policy directory reports.Memory is known h = tt
-no_report given policy directory (reports.Policy fault) is known h = absurd h
-no_report given policy directory (reports.Directory fault) is known h = absurd h
 
 -- an audit returns no fault that names nothing, but for memory
 pub is_named : (policy : Policy) (directory : KnownRows) (sources : List (List ℕ)) (readable_bytes : List (Option Ahead))
@@ -78,24 +69,55 @@ unreported_is policy directory names sources readable_bytes workers fault report
 unreported_is policy directory names sources readable_bytes workers fault (reports.Policy refused) same h is = absurd is
 unreported_is policy directory names sources readable_bytes workers fault (reports.Directory refused) same h is = absurd is
 
-a_report : (given : Given) (policy : Policy) (directory : KnownRows) (report : Report)
-    → IsChecked given.held given.path policy → IsDirectory given.users given.hosts directory
-    → Answers policy directory given.sources given.readable_bytes given.workers (Ok report) → IsAnswer given policy (Ok report)
-a_report given policy directory report is known h =
-    record { is_policy = is; directory = directory; is_directory = known; answers = h }
+-- an audit under the directory that the files state is one under what they state
+pub reported_of : (policy : Policy) (users hosts : Option Ahead) (sources : List (List ℕ)) (readable_bytes : List (Option Ahead))
+    (workers : ℕ) (directory : KnownRows) (r : Result Report ReportFault) → IsDirectory users hosts directory
+    → IfOk r (λ report. Answers policy directory sources readable_bytes workers (Ok report))
+    → IfOk r (λ report. IsAnswerUnder policy users hosts sources readable_bytes workers (Ok report))
+reported_of policy users hosts sources readable_bytes workers directory (Ok report) known h =
+    record { directory = directory; is_directory = known; answers = h }
+reported_of policy users hosts sources readable_bytes workers directory (Err fault) known h = tt
 
-pub reported_of : (given : Given) (policy : Policy) (directory : KnownRows) (r : Result Report ReportFault)
-    → IsChecked given.held given.path policy → IsDirectory given.users given.hosts directory
-    → IfOk r (λ report. Answers policy directory given.sources given.readable_bytes given.workers (Ok report))
+no_report : (policy : Policy) (users hosts : Option Ahead) (sources : List (List ℕ)) (readable_bytes : List (Option Ahead))
+    (workers : ℕ) (directory : KnownRows) (fault : ReportFault) → IsDirectory users hosts directory
+    → IsUnreported policy directory sources readable_bytes workers fault
+    → IsNoAnswer policy users hosts sources readable_bytes workers fault
+no_report policy users hosts sources readable_bytes workers directory (reports.Requests named) known h =
+    (h.0, record { directory = directory; is_directory = known; answers = h.1 }, h.2)
+no_report policy users hosts sources readable_bytes workers directory reports.Memory known h = tt
+no_report policy users hosts sources readable_bytes workers directory (reports.Policy fault) known h = absurd h
+no_report policy users hosts sources readable_bytes workers directory (reports.Directory fault) known h = absurd h
+
+pub unreported_of : (policy : Policy) (users hosts : Option Ahead) (sources : List (List ℕ)) (readable_bytes : List (Option Ahead))
+    (workers : ℕ) (directory : KnownRows) (r : Result Report ReportFault) → IsDirectory users hosts directory
+    → IfErr r (IsUnreported policy directory sources readable_bytes workers)
+    → IfErr r (IsNoAnswer policy users hosts sources readable_bytes workers)
+unreported_of policy users hosts sources readable_bytes workers directory (Ok report) known h = tt
+unreported_of policy users hosts sources readable_bytes workers directory (Err fault) known h =
+    no_report policy users hosts sources readable_bytes workers directory fault known h
+
+-- an audit under a policy of the files, which passes the check, is one of the input
+pub answer_of : (given : Given) (policy : Policy) (r : Result Report ReportFault) → IsChecked given.held given.path policy
+    → IfOk r (λ report. IsAnswerUnder policy given.users given.hosts given.sources given.readable_bytes given.workers (Ok report))
     → IfOk r (λ report. IsAnswer given policy (Ok report))
-reported_of given policy directory (Ok report) is known h = a_report given policy directory report is known h
-reported_of given policy directory (Err fault) is known h = tt
+answer_of given policy (Ok report) is h =
+    record { is_policy = is; directory = h.directory; is_directory = h.is_directory; answers = h.answers }
+answer_of given policy (Err fault) is h = tt
 
-pub unreported_of : (given : Given) (policy : Policy) (directory : KnownRows) (r : Result Report ReportFault)
-    → IsChecked given.held given.path policy → IsDirectory given.users given.hosts directory
-    → IfErr r (IsUnreported policy directory given.sources given.readable_bytes given.workers) → IfErr r (IsNotAudited given)
-unreported_of given policy directory (Ok p) is known h = tt
-unreported_of given policy directory (Err fault) is known h = no_report given policy directory fault is known h
+not_audited : (given : Given) (policy : Policy) (fault : ReportFault) → IsChecked given.held given.path policy
+    → IsNoAnswer policy given.users given.hosts given.sources given.readable_bytes given.workers fault → IsNotAudited given fault
+not_audited given policy (reports.Requests named) is h =
+    let under = h.1 in
+    (policy, h.0, record { is_policy = is; directory = under.directory; is_directory = under.is_directory; answers = under.answers }, h.2)
+not_audited given policy (reports.Directory fault) is h = (h.0, (policy, is), h.1)
+not_audited given policy reports.Memory is h = tt
+not_audited given policy (reports.Policy fault) is h = absurd h
+
+pub no_answer_of : (given : Given) (policy : Policy) (r : Result Report ReportFault) → IsChecked given.held given.path policy
+    → IfErr r (IsNoAnswer policy given.users given.hosts given.sources given.readable_bytes given.workers)
+    → IfErr r (IsNotAudited given)
+no_answer_of given policy (Ok report) is h = tt
+no_answer_of given policy (Err fault) is h = not_audited given policy fault is h
 
 pub answered : (policy : Policy) (directory : KnownRows) (sources : List (List ℕ))
     (readable_bytes : List (Option Ahead)) (workers : ℕ) (before after : PassView) (result : Result Report AuditFault)

@@ -19,7 +19,7 @@ none_of true status s e =
     absurd (omega (arith, one, e))
 none_of false status s e = refl
 
-pub fine_of : (held : Option Holdings) (path : List ℕ) (status : ℕ) (out err : WriterStates)
+pub fine_of : (held : Holdings) (path : List ℕ) (status : ℕ) (out err : WriterStates)
     → Prints (IsExamined held path) status out err → status ≡ 0 → PassesCheck held path
 fine_of held path status out err prints e =
     let x = prints.good in (
@@ -42,16 +42,16 @@ most_of false status s =
     let zero : status ≡ 0 = s in
     omega (arith, zero)
 
-pub examined_most : (held : Option Holdings) (path text : List ℕ) (status : ℕ) → IsExamined held path text status → status ≤ 4
+pub examined_most : (held : Holdings) (path text : List ℕ) (status : ℕ) → IsExamined held path text status → status ≤ 4
 examined_most held path text status x = most_of (has_error x.found) status x.status_is
 
-pub expanded_most : (held : Option Holdings) (path : List ℕ) (kind : Kind) (name text : List ℕ) (status : ℕ)
+pub expanded_most : (held : Holdings) (path : List ℕ) (kind : Kind) (name text : List ℕ) (status : ℕ)
     → IsExpanded held path kind name text status → status ≤ 4
 expanded_most held path kind name text status x =
     let zero = x.0 in
     omega (arith, zero)
 
-pub no_alias : (held : Option Holdings) (path : List ℕ) (kind : Kind) (name : List ℕ) (policy : Policy)
+pub no_alias : (held : Holdings) (path : List ℕ) (kind : Kind) (name : List ℕ) (policy : Policy)
     (fault : ExpansionFault) → IsChecked held path policy → IsNotExpandedOf policy kind name fault → IsNotExpanded held path kind name fault
 no_alias held path kind name policy (faults.NoSuchAlias alias) is h = (h.0, (policy, is, h.1))
 no_alias held path kind name policy faults.Memory is h = tt

@@ -28,8 +28,8 @@ use Rattle.audit_commands.specs.declared.fault.ReportFault.TheVariants as report
 -- the input of an audit: the files of its policy and the path of the main one, the bytes ahead of
 -- the readers of users and of hosts, the names of its sources, the bytes ahead of their readers,
 -- and the number of workers
-pub record Given : Type 0 where
-  pub held : Option Holdings
+pub record Given : Type 1 where
+  pub held : Holdings
   pub path : List ℕ
   pub users : Option Ahead
   pub hosts : Option Ahead
@@ -38,7 +38,7 @@ pub record Given : Type 0 where
   pub workers : ℕ
 
 -- the input, its parts in this order
-abbrev pub given_by : Option Holdings → List ℕ → Option Ahead → Option Ahead → List (List ℕ) → List (Option Ahead) → ℕ → Given
+abbrev pub given_by : Holdings → List ℕ → Option Ahead → Option Ahead → List (List ℕ) → List (Option Ahead) → ℕ → Given
 given_by held path users hosts sources readable_bytes workers = record {
   held = held;
   path = path;
@@ -86,6 +86,23 @@ IsUnreported policy directory sources readable_bytes workers (reports.Requests n
 IsUnreported policy directory sources readable_bytes workers reports.Memory = ⊤
 IsUnreported policy directory sources readable_bytes workers (reports.Policy fault) = ⊥
 IsUnreported policy directory sources readable_bytes workers (reports.Directory fault) = ⊥
+
+-- the result of an audit under a policy and the directory that the files state
+pub record IsAnswerUnder (policy : Policy) (users hosts : Option Ahead) (sources : List (List ℕ))
+    (readable_bytes : List (Option Ahead)) (workers : ℕ) (result : Result Report AuditFault) : Type 0 where
+  pub directory : KnownRows
+  pub is_directory : IsDirectory users hosts directory
+  pub answers : Answers policy directory sources readable_bytes workers result
+
+-- why there is no report under a policy: the files state no directory, or the audit has none
+abbrev pub IsNoAnswer : Policy → Option Ahead → Option Ahead → List (List ℕ) → List (Option Ahead) → ℕ → ReportFault → Type 0
+IsNoAnswer policy users hosts sources readable_bytes workers (reports.Directory fault) =
+    (fault ≢ directories.Memory) × IsNoDirectory users hosts fault
+IsNoAnswer policy users hosts sources readable_bytes workers (reports.Requests named) =
+    (fault : AuditFault) × IsAnswerUnder policy users hosts sources readable_bytes workers (Err fault)
+    × (fault_named sources fault ≡ Some named)
+IsNoAnswer policy users hosts sources readable_bytes workers reports.Memory = ⊤
+IsNoAnswer policy users hosts sources readable_bytes workers (reports.Policy fault) = ⊥
 
 -- the result of an audit under the policy, which passes the check, and the directory that the files
 -- state

@@ -16,7 +16,7 @@ abbrev pub check_status : List Finding → ℕ
 check_status found = if has_error found then 1 else 0
 
 -- the output of `check` and its status, for the policy that the file at a path unfolds to
-pub record IsExamined (held : Option Holdings) (path : List ℕ) (text : List ℕ) (status : ℕ) : Type 0 where
+pub record IsExamined (held : Holdings) (path : List ℕ) (text : List ℕ) (status : ℕ) : Type 0 where
   pub policy : Policy
   pub loaded : IsLoaded held path policy
   pub found : List Finding

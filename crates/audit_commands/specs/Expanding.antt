@@ -25,17 +25,17 @@ AreAliasLines policy kind name lines =
 
 -- the output of `expand` with status 0: the lines of an alias of the policy that the file at a path
 -- unfolds to, which passes the check
-abbrev pub IsExpanded : Option Holdings → List ℕ → Kind → List ℕ → List ℕ → ℕ → Type 0
+abbrev pub IsExpanded : Holdings → List ℕ → Kind → List ℕ → List ℕ → ℕ → Type 0
 IsExpanded held path kind name text status =
     (status ≡ 0) × ((policy : Policy) × IsChecked held path policy × AreAliasLines policy kind name text)
 
 -- the policy that the file at a path unfolds to passes the check, and has no such alias
-abbrev pub HasNoAlias : Option Holdings → List ℕ → Kind → List ℕ → Type 0
+abbrev pub HasNoAlias : Holdings → List ℕ → Kind → List ℕ → Type 0
 HasNoAlias held path kind name = (policy : Policy) × IsChecked held path policy × (in_force kind policy name ≡ None)
 
 -- why there is nothing of an alias to print: no policy passes the check, or it has no alias of this
 -- name, or memory failed
-abbrev pub IsNotExpanded : Option Holdings → List ℕ → Kind → List ℕ → ExpansionFault → Type 0
+abbrev pub IsNotExpanded : Holdings → List ℕ → Kind → List ℕ → ExpansionFault → Type 0
 IsNotExpanded held path kind name (faults.Policy fault) = (fault ≢ policies.Memory) × IsNotChecked held path fault
 IsNotExpanded held path kind name (faults.NoSuchAlias alias) = (alias ≡ name) × HasNoAlias held path kind name
 IsNotExpanded held path kind name faults.Memory = ⊤

@@ -1,10 +1,8 @@
 //! `audit`: answers requests.
-ghost use Rattle.std.specs.Prelude.{◌≡◌, ◌≢◌, ◌≤◌, ◌⊎◌, ℕ, List, Option, Ok, Err, IfErr, IfOk, IsSome, map};
+ghost use Rattle.std.specs.Prelude.{◌≡◌, ◌≢◌, ◌≤◌, ◌⊎◌, Ok, Err, IfErr, IfOk, IsSome, map};
 ghost use Rattle.run_base.specs.Endings.{writer_states as sent, Ends};
-ghost use Rattle.run_base.specs.Holding.{Holdings};
-ghost use Rattle.run_base.specs.Loading.{IsChecked};
-ghost use Rattle.audit_commands.specs.Auditing.{Answers, Given, given_by, IsAnswer, IsAudited, IsDirectory};
-ghost use Rattle.audit_commands.specs.Auditing.{IsNoDirectory, IsNotAudited, IsUnreported};
+ghost use Rattle.audit_commands.specs.Auditing.{Answers, Given, given_by, IsAnswerUnder, IsAudited, IsDirectory};
+ghost use Rattle.audit_commands.specs.Auditing.{IsNoAnswer, IsNoDirectory, IsNotAudited, IsUnreported};
 ghost use Rattle.audit_commands.specs.Body.Auditing.{IsFaultNamed, IsPrintedReport};
 ghost use Rattle.audit_commands.specs.FaultLines.{audit_notices};
 ghost use Rattle.audit_commands.specs.NamedFaults.{fault_named};
@@ -115,8 +113,7 @@ pub fn report_under<T: Threads + Wait + Sync, R: Feed + Drop + Send>(
     }
 }
 
-/// Returns the report on the requests of the sources, under a policy that passes the check and the directory of these users
-/// and hosts.
+/// Returns the report on the requests of the sources, under a policy and the directory of these users and hosts.
 ///
 /// Returns `Directory` if the users, the hosts or both together are refused, `Requests` if the requests are, or a thread
 /// could not be started, and `Memory` if allocation failed.
@@ -129,16 +126,14 @@ pub fn answer_requests<T: Threads + Wait + Sync, U: Feed, H: Feed, R: Feed + Dro
     work: Work<R>,
 ) -> Result<Report, ReportFault>
     requires { (1 ≤ work.workers) × (work.workers ≤ 16) }
-    ensures report { (held : Option Holdings) (path : List ℕ) → IsChecked held path policy.now →
-        let given : Given = given_by held path (U.ahead users.old) (H.ahead hosts.old)
-        (map (λ s. s.name) work.sources.items) (map (λ s. R.ahead s.reader) work.sources.items)
-        work.workers in
-        IfOk result (λ report. IsAnswer given policy.now (Ok report)) }
-    ensures fault { (held : Option Holdings) (path : List ℕ) → IsChecked held path policy.now →
-        let given : Given = given_by held path (U.ahead users.old) (H.ahead hosts.old)
-        (map (λ s. s.name) work.sources.items) (map (λ s. R.ahead s.reader) work.sources.items)
-        work.workers in
-        IfErr result (IsNotAudited given) }
+    ensures report { let names = map (λ s. s.name) work.sources.items in
+        let readable_bytes = map (λ s. R.ahead s.reader) work.sources.items in
+        IfOk result (λ report. IsAnswerUnder policy.now (U.ahead users.old) (H.ahead hosts.old)
+        names readable_bytes work.workers (Ok report)) }
+    ensures fault { let names = map (λ s. s.name) work.sources.items in
+        let readable_bytes = map (λ s. R.ahead s.reader) work.sources.items in
+        IfErr result (IsNoAnswer policy.now (U.ahead users.old) (H.ahead hosts.old)
+        names readable_bytes work.workers) }
 {
     let Work { sources, workers } = work;
     match directory_of(alloc, users, hosts) {

@@ -26,9 +26,10 @@ fn check_lines(alloc: Global, files: &[Seq<u8>], found: &[Finding]) -> Result<Ru
     Ok(RunOutput { text, status: 0 })
 }
 
-// Returns the text and the status of a check of the policy of a file. Forgets the policy: the run ends here, and freeing a
-// large policy item by item takes a tenth of the time.
-fn check_output<F: Files>(
+/// Returns the text and the status of a check of the policy of a file: one line for each finding, then `ok` if none is an
+/// error. Returns the fault of a policy that is not read.
+// Forgets the policy: the run ends here, and freeing a large policy item by item takes a tenth of the time.
+pub fn check_output<F: Files>(
     alloc: Global,
     path: &[u8],
     files: &mut F,

@@ -15,7 +15,7 @@ mod sources;
 mod words;
 
 pub use audit::{Work, answer_requests, audit_into, directory_of, report_under};
-pub use check::check_run;
+pub use check::{check_output, check_run};
 pub use expand::expand_run;
 pub use fault::{DirectoryFault, ExpansionFault, ReportFault, SourcesFault, file_status};
 pub use fault_text::push_file_fault;

@@ -41,9 +41,9 @@ struct Failing<'a> {
 }
 
 impl Files for Failing<'_> {
-    ghost use Rattle.std.specs.Prelude.{None};
+    ghost use Rattle.run_base.specs.Holding.{any_holdings};
 
-    ghost held = { λ _. None };
+    ghost held = { λ _. any_holdings };
 
     fn file(&mut self, alloc: Global, path: &[u8]) -> Result<Option<Seq<u8>>, FilesFault> {
         let call = if path == self.path { self.call } else { 0 };

@@ -48,9 +48,9 @@ fn folder_fault(refusal: Refusal) -> FilesFault
 }
 
 impl Files for Locked<'_> {
-    ghost use Rattle.std.specs.Prelude.{None};
+    ghost use Rattle.run_base.specs.Holding.{any_holdings};
 
-    ghost held = { λ _. None };
+    ghost held = { λ _. any_holdings };
 
     fn file(&mut self, alloc: Global, path: &[u8]) -> Result<Option<Seq<u8>>, FilesFault> {
         if path == self.path {
@@ -149,9 +149,10 @@ struct Alone {
 
 impl Files for Alone {
     ghost use Rattle.std.specs.Prelude.{Some, [], ◌∷◌};
+    ghost use Rattle.run_base.specs.Holding.{holdings_of};
     ghost use Rattle.sudo_load.specs.declared.supply.Supply.TheVariants.{File};
 
-    ghost held = { λ s. Some (record { supplies = File s.path (Some s.text) ∷ []; unreadable = [] }) };
+    ghost held = { λ s. holdings_of (File s.path (Some s.text) ∷ []) [] };
 
     fn file(&mut self, alloc: Global, path: &[u8]) -> Result<Option<Seq<u8>>, FilesFault> {
         if self.path.as_slice() != path {

@@ -52,9 +52,9 @@ pub(crate) struct Shelf<'a> {
 }
 
 impl Files for Shelf<'_> {
-    ghost use Rattle.std.specs.Prelude.{None};
+    ghost use Rattle.run_base.specs.Holding.{any_holdings};
 
-    ghost held = { λ _. None };
+    ghost held = { λ _. any_holdings };
 
     fn file(&mut self, alloc: Global, path: &[u8]) -> Result<Option<Seq<u8>>, FilesFault> {
         for item in self.items {

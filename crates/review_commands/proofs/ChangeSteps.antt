@@ -7,11 +7,22 @@ use Rattle.audit_commands.specs.declared.fault.ReportFault.TheVariants as report
 use Rattle.run_base.specs.declared.run_output.RunOutput.{RunOutput}
 use Rattle.sudo_grammar.specs.declared.policy.Policy.{Policy}
 use Rattle.sudo_match.specs.KnownRows.{KnownRows}
-use Rattle.review_commands.specs.Body.Changing.{AreJudged}
+use Rattle.review_commands.specs.Body.Changing.{AreJudged, IsFaultOfPair}
 use Rattle.review_commands.specs.Body.Surveying.{IsNotedTable}
 use Rattle.review_commands.specs.Changes.{AreChanges, AreNoChanges, ChangeInputs}
-use Rattle.review_commands.specs.Comparing.{IsPaired}
+use Rattle.review_commands.specs.Comparing.{IsNotPaired, IsPaired}
 use Rattle.review_commands.specs.declared.ending.NotedOutput.{NotedOutput}
+use Rattle.review_commands.specs.declared.fault.TableFault.{TableFault}
+use Rattle.review_commands.specs.declared.fault.TableFault.TheVariants as tables
+
+-- without a pair there are no changes
+pub unpaired-of : (given : ChangeInputs) (fault : TableFault) (r : ReportFault) → IsFaultOfPair fault r
+    → IsNotPaired given.pair fault → AreNoChanges given r
+unpaired-of given (tables.Policy fault) r is not = subst (AreNoChanges given) (sym is) not
+unpaired-of given (tables.Directory fault) r is not = subst (AreNoChanges given) (sym is) not
+unpaired-of given (tables.NoSuchUser name) r is not = subst (AreNoChanges given) (sym is) tt
+unpaired-of given (tables.NoSuchHost name) r is not = subst (AreNoChanges given) (sym is) tt
+unpaired-of given tables.Memory r is not = subst (AreNoChanges given) (sym is) tt
 
 module _ (given : ChangeInputs) (old new : Policy) (directory : KnownRows) (notice : List ℕ)
     (paired : IsPaired given.pair old new directory notice) where

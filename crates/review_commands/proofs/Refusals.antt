@@ -8,7 +8,7 @@ use Rattle.review_cautions.specs.Classes.{class_name}
 use Rattle.review_cautions.specs.declared.class.CautionClass.{CautionClass}
 use Rattle.review_commands.specs.declared.request.PairPaths.{PairPaths}
 use Rattle.review_commands.specs.declared.request.Paths.{Paths}
-use Rattle.review_commands.specs.declared.request.Asked.TheVariants.{Cautions, Changes, Compare, Grants, Report, Roots, Rules}
+use Rattle.review_commands.specs.declared.request.Asked.TheVariants.{Cautions, Changes, Check, Compare, Grants, Report, Roots, Rules}
 use Rattle.review_commands.specs.declared.request.Asked.TheVariants.{Subjects}
 use Rattle.review_commands.specs.Body.Paths.{LackPair, LackPaths}
 use Rattle.review_commands.specs.Words.{AsksNothing, HavePair, HavePaths}
@@ -83,21 +83,56 @@ subjects_is_compare = differ_at 2 (codes "subjects") (codes "compare") 98 109 re
 rules_is_compare : codes "rules" ≡ codes "compare" → ⊥
 rules_is_compare = differ_at 2 (codes "rules") (codes "compare") 108 109 refl refl (omega arith)
 
+check_is_cautions : codes "check" ≡ codes "cautions" → ⊥
+check_is_cautions = differ_at 2 (codes "check") (codes "cautions") 101 117 refl refl (omega arith)
+
+check_is_report : codes "check" ≡ codes "report" → ⊥
+check_is_report = differ_at 2 (codes "check") (codes "report") 101 112 refl refl (omega arith)
+
+grants_is_check : codes "grants" ≡ codes "check" → ⊥
+grants_is_check = differ_at 2 (codes "grants") (codes "check") 97 101 refl refl (omega arith)
+
+check_is_roots : codes "check" ≡ codes "roots" → ⊥
+check_is_roots = differ_at 2 (codes "check") (codes "roots") 101 111 refl refl (omega arith)
+
+subjects_is_check : codes "subjects" ≡ codes "check" → ⊥
+subjects_is_check = differ_at 2 (codes "subjects") (codes "check") 98 101 refl refl (omega arith)
+
+check_is_rules : codes "check" ≡ codes "rules" → ⊥
+check_is_rules = differ_at 2 (codes "check") (codes "rules") 101 108 refl refl (omega arith)
+
+check_is_compare : codes "check" ≡ codes "compare" → ⊥
+check_is_compare = differ_at 2 (codes "check") (codes "compare") 101 109 refl refl (omega arith)
+
 none_there : (o : Option Text) (text : Text) → o ≡ None → o ≡ Some text → ⊥
 none_there o text none there = cc
 
-pub no_name : (name : Text) (rows : List Row) → name ≢ codes "cautions" → name ≢ codes "report" → name ≢ codes "grants"
-    → name ≢ codes "compare" → name ≢ codes "roots" → name ≢ codes "subjects" → name ≢ codes "rules" → AsksNothing (name, rows)
-no_name name rows cautions report grants compare roots subjects rules (Cautions policy links without) stated fit = cautions stated.0
-no_name name rows cautions report grants compare roots subjects rules (Report paths workers senders) stated fit = report stated.0
-no_name name rows cautions report grants compare roots subjects rules (Grants paths user host) stated fit = grants stated.0
-no_name name rows cautions report grants compare roots subjects rules (Compare paths user host) stated fit = compare stated.0
-no_name name rows cautions report grants compare roots subjects rules (Changes paths senders) stated fit = compare stated.0
-no_name name rows cautions report grants compare roots subjects rules (Roots paths all) stated fit = roots stated.0
-no_name name rows cautions report grants compare roots subjects rules (Subjects paths) stated fit = subjects stated.0
-no_name name rows cautions report grants compare roots subjects rules (Rules paths workers senders) stated fit = rules stated.0
+pub no_name : (name : Text) (rows : List Row) → name ≢ codes "check" → name ≢ codes "cautions" → name ≢ codes "report"
+    → name ≢ codes "grants" → name ≢ codes "compare" → name ≢ codes "roots" → name ≢ codes "subjects" → name ≢ codes "rules"
+    → AsksNothing (name, rows)
+no_name name rows check cautions report grants compare roots subjects rules (Check policy) stated fit = check stated.0
+no_name name rows check cautions report grants compare roots subjects rules (Cautions policy links without) stated fit = cautions stated.0
+no_name name rows check cautions report grants compare roots subjects rules (Report paths workers senders) stated fit = report stated.0
+no_name name rows check cautions report grants compare roots subjects rules (Grants paths user host) stated fit = grants stated.0
+no_name name rows check cautions report grants compare roots subjects rules (Compare paths user host) stated fit = compare stated.0
+no_name name rows check cautions report grants compare roots subjects rules (Changes paths senders) stated fit = compare stated.0
+no_name name rows check cautions report grants compare roots subjects rules (Roots paths all) stated fit = roots stated.0
+no_name name rows check cautions report grants compare roots subjects rules (Subjects paths) stated fit = subjects stated.0
+no_name name rows check cautions report grants compare roots subjects rules (Rules paths workers senders) stated fit = rules stated.0
+
+pub check_without_file : (rows : List Row) → first_of (codes "file") rows ≡ None → AsksNothing (codes "check", rows)
+check_without_file rows none (Check policy) stated fit = none_there _ _ none stated.1.file_is
+check_without_file rows none (Cautions policy links without) stated fit = check_is_cautions stated.0
+check_without_file rows none (Report paths workers senders) stated fit = check_is_report stated.0
+check_without_file rows none (Grants paths user host) stated fit = grants_is_check (sym stated.0)
+check_without_file rows none (Compare paths user host) stated fit = check_is_compare stated.0
+check_without_file rows none (Changes paths senders) stated fit = check_is_compare stated.0
+check_without_file rows none (Roots paths all) stated fit = check_is_roots stated.0
+check_without_file rows none (Subjects paths) stated fit = subjects_is_check (sym stated.0)
+check_without_file rows none (Rules paths workers senders) stated fit = check_is_rules stated.0
 
 pub cautions_without_file : (rows : List Row) → first_of (codes "file") rows ≡ None → AsksNothing (codes "cautions", rows)
+cautions_without_file rows none (Check policy) stated fit = check_is_cautions (sym stated.0)
 cautions_without_file rows none (Cautions policy links without) stated fit = none_there _ _ none stated.1.file_is
 cautions_without_file rows none (Report paths workers senders) stated fit = report_is_cautions (sym stated.0)
 cautions_without_file rows none (Grants paths user host) stated fit = grants_is_cautions (sym stated.0)
@@ -117,6 +152,7 @@ have_or_lack rows paths lack have = elim lack [
 ]
 
 pub report_without_paths : (rows : List Row) → LackPaths rows → AsksNothing (codes "report", rows)
+report_without_paths rows lack (Check policy) stated fit = check_is_report (sym stated.0)
 report_without_paths rows lack (Cautions policy links without) stated fit = report_is_cautions stated.0
 report_without_paths rows lack (Report paths workers senders) stated fit = have_or_lack _ _ lack stated.1
 report_without_paths rows lack (Grants paths user host) stated fit = grants_is_report (sym stated.0)
@@ -127,6 +163,7 @@ report_without_paths rows lack (Subjects paths) stated fit = subjects_is_report 
 report_without_paths rows lack (Rules paths workers senders) stated fit = rules_is_report (sym stated.0)
 
 pub grants_without_paths : (rows : List Row) → LackPaths rows → AsksNothing (codes "grants", rows)
+grants_without_paths rows lack (Check policy) stated fit = grants_is_check stated.0
 grants_without_paths rows lack (Cautions policy links without) stated fit = grants_is_cautions stated.0
 grants_without_paths rows lack (Report paths workers senders) stated fit = grants_is_report stated.0
 grants_without_paths rows lack (Grants paths user host) stated fit = have_or_lack _ _ lack stated.1
@@ -137,6 +174,7 @@ grants_without_paths rows lack (Subjects paths) stated fit = grants_is_subjects 
 grants_without_paths rows lack (Rules paths workers senders) stated fit = grants_is_rules stated.0
 
 pub roots_without_paths : (rows : List Row) → LackPaths rows → AsksNothing (codes "roots", rows)
+roots_without_paths rows lack (Check policy) stated fit = check_is_roots (sym stated.0)
 roots_without_paths rows lack (Cautions policy links without) stated fit = roots_is_cautions stated.0
 roots_without_paths rows lack (Report paths workers senders) stated fit = roots_is_report stated.0
 roots_without_paths rows lack (Grants paths user host) stated fit = grants_is_roots (sym stated.0)
@@ -147,6 +185,7 @@ roots_without_paths rows lack (Subjects paths) stated fit = subjects_is_roots (s
 roots_without_paths rows lack (Rules paths workers senders) stated fit = rules_is_roots (sym stated.0)
 
 pub subjects_without_paths : (rows : List Row) → LackPaths rows → AsksNothing (codes "subjects", rows)
+subjects_without_paths rows lack (Check policy) stated fit = subjects_is_check stated.0
 subjects_without_paths rows lack (Cautions policy links without) stated fit = subjects_is_cautions stated.0
 subjects_without_paths rows lack (Report paths workers senders) stated fit = subjects_is_report stated.0
 subjects_without_paths rows lack (Grants paths user host) stated fit = grants_is_subjects (sym stated.0)
@@ -157,6 +196,7 @@ subjects_without_paths rows lack (Subjects paths) stated fit = have_or_lack _ _ 
 subjects_without_paths rows lack (Rules paths workers senders) stated fit = subjects_is_rules stated.0
 
 pub rules_without_paths : (rows : List Row) → LackPaths rows → AsksNothing (codes "rules", rows)
+rules_without_paths rows lack (Check policy) stated fit = check_is_rules (sym stated.0)
 rules_without_paths rows lack (Cautions policy links without) stated fit = rules_is_cautions stated.0
 rules_without_paths rows lack (Report paths workers senders) stated fit = rules_is_report stated.0
 rules_without_paths rows lack (Grants paths user host) stated fit = grants_is_rules (sym stated.0)
@@ -179,6 +219,7 @@ have_or_lack_pair rows paths lack have = elim lack [
 ]
 
 pub compare_without_paths : (rows : List Row) → LackPair rows → AsksNothing (codes "compare", rows)
+compare_without_paths rows lack (Check policy) stated fit = check_is_compare (sym stated.0)
 compare_without_paths rows lack (Cautions policy links without) stated fit = compare_is_cautions stated.0
 compare_without_paths rows lack (Report paths workers senders) stated fit = compare_is_report stated.0
 compare_without_paths rows lack (Grants paths user host) stated fit = grants_is_compare (sym stated.0)
@@ -196,6 +237,7 @@ no_words (w ∷ ws) e = cc
 pub requests_in_scope : (rows : List Row) (words : List (Bor (List ℕ)))
     → unwrap_or (all_of (codes "requests") rows) [] ≡ map (λ b. b.now) words → words ≢ []
     → (first_of (codes "user") rows ≡ None → first_of (codes "host") rows ≡ None → ⊥) → AsksNothing (codes "compare", rows)
+requests_in_scope rows words are some scoped (Check policy) stated fit = check_is_compare (sym stated.0)
 requests_in_scope rows words are some scoped (Cautions policy links without) stated fit = compare_is_cautions stated.0
 requests_in_scope rows words are some scoped (Report paths workers senders) stated fit = compare_is_report stated.0
 requests_in_scope rows words are some scoped (Grants paths user host) stated fit = grants_is_compare (sym stated.0)
@@ -206,6 +248,7 @@ requests_in_scope rows words are some scoped (Subjects paths) stated fit = subje
 requests_in_scope rows words are some scoped (Rules paths workers senders) stated fit = rules_is_compare (sym stated.0)
 
 pub rules_without_workers : (rows : List Row) → HasNoWorkers rows → AsksNothing (codes "rules", rows)
+rules_without_workers rows none (Check policy) stated fit = check_is_rules (sym stated.0)
 rules_without_workers rows none (Cautions policy links without) stated fit = rules_is_cautions stated.0
 rules_without_workers rows none (Report paths workers senders) stated fit = rules_is_report stated.0
 rules_without_workers rows none (Grants paths user host) stated fit = grants_is_rules (sym stated.0)
@@ -216,6 +259,7 @@ rules_without_workers rows none (Subjects paths) stated fit = subjects_is_rules 
 rules_without_workers rows none (Rules paths workers senders) stated fit = none workers stated.2 fit.0 fit.1
 
 pub report_without_workers : (rows : List Row) → HasNoWorkers rows → AsksNothing (codes "report", rows)
+report_without_workers rows none (Check policy) stated fit = check_is_report (sym stated.0)
 report_without_workers rows none (Cautions policy links without) stated fit = report_is_cautions stated.0
 report_without_workers rows none (Report paths workers senders) stated fit = none workers stated.2 fit.0 fit.1
 report_without_workers rows none (Grants paths user host) stated fit = grants_is_report (sym stated.0)
@@ -228,6 +272,7 @@ report_without_workers rows none (Rules paths workers senders) stated fit = rule
 -- a word for `--without` names no class
 pub cautions_of_bad_class : (rows : List Row) (words : List Text) → unwrap_or (all_of (codes "without") rows) [] ≡ words
     → ((classes : List CautionClass) → map class_name classes ≢ words) → AsksNothing (codes "cautions", rows)
+cautions_of_bad_class rows words are bad (Check policy) stated fit = check_is_cautions (sym stated.0)
 cautions_of_bad_class rows words are bad (Cautions policy links without) stated fit = bad without.items (sym stated.3 ∙ are)
 cautions_of_bad_class rows words are bad (Report paths workers senders) stated fit = report_is_cautions (sym stated.0)
 cautions_of_bad_class rows words are bad (Grants paths user host) stated fit = grants_is_cautions (sym stated.0)

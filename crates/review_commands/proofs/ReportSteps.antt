@@ -16,7 +16,7 @@ use Rattle.review_commands.specs.Reviewing.{IsReviewed}
 use Rattle.review_commands.specs.declared.report.Form.{Form}
 use Rattle.review_commands.specs.declared.ending.NotedOutput.{NotedOutput}
 
-pub checked_of : (held : Option Holdings) (path main : List ℕ) (handed : List Supply) (policy : Policy)
+pub checked_of : (held : Holdings) (path main : List ℕ) (handed : List Supply) (policy : Policy)
     → IsLoadedFrom held path main handed policy → Passes policy → IsChecked held path policy
 checked_of held path main handed policy loaded passes = record { loaded = (main, handed, loaded); passes = passes }
 

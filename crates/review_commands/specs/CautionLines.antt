@@ -101,8 +101,8 @@ abbrev pub pair_notice : List ℕ → List Caution → List ℕ → List Caution
 pair_notice old_path old_found new_path new_found = path_notice old_path old_found ++ path_notice new_path new_found
 
 -- what each command prints for its faults
-abbrev pub cautions_notices : Notices PolicyFault
-cautions_notices = notices policy_status policy_explained program_name
+abbrev pub policy_notices : Notices PolicyFault
+policy_notices = notices policy_status policy_explained program_name
 
 abbrev pub report_notices : Notices ReportFault
 report_notices = notices report_status report_explained program_name

@@ -132,7 +132,7 @@ changes_status new d r = if list_any (λ (s : SenderReport). list_any (is_change
 -- ---- The command
 
 -- the input: that of a comparison, the names of the sources of requests, and the bytes ahead of their readers
-pub record ChangeInputs : Type 0 where
+pub record ChangeInputs : Type 1 where
   pub pair : PairInputs
   pub sources : List (List ℕ)
   pub readable_bytes : List (Option Ahead)

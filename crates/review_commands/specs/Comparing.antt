@@ -29,15 +29,15 @@ use Rattle.review_commands.specs.declared.fault.TableFault.TheVariants as tables
 
 -- the input of a comparison: the files of each policy and the path of its main one, and the bytes ahead of the readers of users
 -- and of hosts
-pub record PairInputs : Type 0 where
-  pub old_held : Option Holdings
+pub record PairInputs : Type 1 where
+  pub old_held : Holdings
   pub old_path : List ℕ
-  pub new_held : Option Holdings
+  pub new_held : Holdings
   pub new_path : List ℕ
   pub users : Option Ahead
   pub hosts : Option Ahead
 
-abbrev pub pair_by : Option Holdings → List ℕ → Option Holdings → List ℕ → Option Ahead → Option Ahead → PairInputs
+abbrev pub pair_by : Holdings → List ℕ → Holdings → List ℕ → Option Ahead → Option Ahead → PairInputs
 pair_by old_held old_path new_held new_path users hosts = record {
   old_held = old_held;
   old_path = old_path;

@@ -21,7 +21,7 @@ use Rattle.review_commands.specs.declared.report.Form.TheVariants as forms
 
 -- these are the cautions on the policy to which the file at a path unfolds, by the texts that were read for it, on a machine
 -- that has these links
-pub record AreCautionsBy (links : List Link) (held : Option Holdings) (path : List ℕ) (policy : Policy) (found : List Caution)
+pub record AreCautionsBy (links : List Link) (held : Holdings) (path : List ℕ) (policy : Policy) (found : List Caution)
     : Type 0 where
   pub main : List ℕ
   pub handed : List Supply
@@ -29,12 +29,12 @@ pub record AreCautionsBy (links : List Link) (held : Option Holdings) (path : Li
   pub found_are : AreCautionsOn links (texts_of main handed policy.files) policy found
 
 -- the same on a machine that has the usual links
-abbrev pub AreCautions : Option Holdings → List ℕ → Policy → List Caution → Type 0
+abbrev pub AreCautions : Holdings → List ℕ → Policy → List Caution → Type 0
 AreCautions = AreCautionsBy usual_links
 
 -- the output of `cautions` and its status, for the policy that the file at a path unfolds to, on a machine that has these
 -- links, without these classes
-pub record IsCautioned (held : Option Holdings) (path : List ℕ) (links : List Link) (without : List CautionClass) (text : List ℕ)
+pub record IsCautioned (held : Holdings) (path : List ℕ) (links : List Link) (without : List CautionClass) (text : List ℕ)
     (status : ℕ) : Type 0 where
   pub policy : Policy
   pub found : List Caution

@@ -28,13 +28,13 @@ use Rattle.review_commands.specs.SubjectRows.{subjects_status, subjects_text}
 
 -- the input of a table: the files of its policy and the path of the main one, and the bytes ahead of the readers of users
 -- and of hosts
-pub record Inputs : Type 0 where
-  pub held : Option Holdings
+pub record Inputs : Type 1 where
+  pub held : Holdings
   pub path : List ℕ
   pub users : Option Ahead
   pub hosts : Option Ahead
 
-abbrev pub inputs_by : Option Holdings → List ℕ → Option Ahead → Option Ahead → Inputs
+abbrev pub inputs_by : Holdings → List ℕ → Option Ahead → Option Ahead → Inputs
 inputs_by held path users hosts = record { held = held; path = path; users = users; hosts = hosts }
 
 -- the policy, which passes the check, the known users and hosts, and the line of the cautions on the policy

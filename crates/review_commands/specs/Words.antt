@@ -10,7 +10,8 @@ use Rattle.review_commands.specs.declared.request.Asked.{Asked}
 use Rattle.review_commands.specs.declared.request.PairPaths.{PairPaths}
 use Rattle.review_commands.specs.declared.request.Paths.{Paths}
 use Rattle.review_commands.specs.declared.request.PolicyPath.{PolicyPath}
-use Rattle.review_commands.specs.declared.request.Asked.TheVariants.{Cautions, Changes, Compare, Grants, Report, Roots, Rules, Subjects}
+use Rattle.review_commands.specs.declared.request.Asked.TheVariants.{Cautions, Changes, Check, Compare, Grants, Report}
+use Rattle.review_commands.specs.declared.request.Asked.TheVariants.{Roots, Rules, Subjects}
 
 -- --without CLASS, any number of times
 abbrev pub without_rule : Rule
@@ -72,8 +73,8 @@ named_app = on_top (λ s. record s { has_version = true; subcommand_required = t
 -- the program's command, with its subcommands
 abbrev pub program_app : App
 program_app = with_subcommand (with_subcommand (with_subcommand (with_subcommand (with_subcommand (with_subcommand (with_subcommand
-    named_app cautions_app.top) (judging_app (codes "report")).top) grants_app.top) roots_app.top) (paths_app (codes "subjects")).top)
-    (judging_app (codes "rules")).top) compare_app.top
+    (with_subcommand named_app (policy_app (codes "check")).top) cautions_app.top) (judging_app (codes "report")).top) grants_app.top)
+    roots_app.top) (paths_app (codes "subjects")).top) (judging_app (codes "rules")).top) compare_app.top
 
 -- the rows hold the main file of a policy, and the folder below which its files are, if one is given
 pub record HavePolicy (rows : List Row) (policy : PolicyPath) : Type 0 where
@@ -100,6 +101,7 @@ IsFlag on (Some text) = (text ≡ codes "true" → on ≡ true) × (text ≡ cod
 
 -- the rows of the subcommand hold this command
 abbrev pub HoldsCommand : Asked → Text × List Row → Type 0
+HoldsCommand (Check policy) p = (p.0 ≡ codes "check") × HavePolicy p.1 policy
 HoldsCommand (Cautions policy links without) p =
     (p.0 ≡ codes "cautions") × HavePolicy p.1 policy × (first_of (codes "links") p.1 ≡ option_map (λ s. s.now) links)
     × (unwrap_or (all_of (codes "without") p.1) [] ≡ map class_name without.items)
@@ -126,6 +128,7 @@ HoldsCommand (Report paths workers senders) p =
 
 -- the number of workers is one that an audit accepts
 abbrev pub WorkersFit : Asked → Type 0
+WorkersFit (Check policy) = ⊤
 WorkersFit (Cautions policy links without) = ⊤
 WorkersFit (Grants paths user host) = ⊤
 WorkersFit (Compare paths user host) = ⊤

@@ -4,7 +4,7 @@ ghost use Rattle.run_base.specs.Endings.{writer_states as sent, Ends};
 ghost use Rattle.run_base.specs.Loading.{IsNoPolicy};
 ghost use Rattle.review_cautions.specs.Cautions.{AreCautionsOn};
 ghost use Rattle.review_cautions.specs.ListTests as lists_spec;
-ghost use Rattle.review_commands.specs.CautionLines.{cautions_notices, is_without, kept_cautions};
+ghost use Rattle.review_commands.specs.CautionLines.{is_without, kept_cautions, policy_notices};
 ghost use Rattle.review_commands.specs.Reviewing.{IsCautioned};
 ghost use Rattle.review_commands.specs.FileTexts.{texts_of};
 
@@ -112,7 +112,7 @@ pub fn cautions_run<F: Files, O: Sink, E: Sink>(
     out: &mut O,
     err: &mut E,
 ) -> u8
-    ensures ends { Ends cautions_notices
+    ensures ends { Ends policy_notices
         (IsCautioned (F.held files.old) path.now links.now without.now)
         (IsNoPolicy (F.held files.old) path.now) result
         (sent O.taken O.stalled_writes out.old out.new)

@@ -2,11 +2,11 @@
 ghost use Rattle.std.specs.Prelude.{◌≡◌, ◌≤◌, IfErr, IfOk, map};
 ghost use Rattle.run_base.specs.Endings.{writer_states as sent};
 ghost use Rattle.audit_commands.specs.Auditing.{IsUnreported};
-ghost use Rattle.review_commands.specs.Body.Changing.{AreJudged};
+ghost use Rattle.review_commands.specs.Body.Changing.{AreJudged, IsFaultOfPair};
 ghost use Rattle.review_commands.specs.CautionLines.{report_notices};
 ghost use Rattle.review_commands.specs.Changes.{AreChanges, AreNoChanges, ChangeInputs};
 ghost use Rattle.review_commands.specs.Changes.{change_inputs};
-ghost use Rattle.review_commands.specs.Comparing.{IsNotPaired, PairInputs, pair_by};
+ghost use Rattle.review_commands.specs.Comparing.{PairInputs, pair_by};
 ghost use Rattle.review_commands.specs.Endings.{EndsNoted};
 
 use crate::change_rows::{Judges, changes_table};
@@ -29,7 +29,7 @@ const WORKERS: u32 = 2;
 
 // Returns why there is no pair, as the fault of an audit.
 fn unpaired(fault: TableFault) -> ReportFault
-    ensures { (given : ChangeInputs) → IsNotPaired given.pair fault → AreNoChanges given result }
+    ensures { IsFaultOfPair fault result }
 {
     match fault {
         TableFault::Policy(fault) => ReportFault::Policy(fault),

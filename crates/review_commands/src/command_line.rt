@@ -3,7 +3,7 @@ ghost use Rattle.std.specs.Prelude.{◌≡◌, IfOk, codes, false};
 ghost use Rattle.clap.specs.Words.{app_of, rule_of};
 ghost use Rattle.clap.specs.declared.builder.command.Command.TheViews.{out-Command as fields_of};
 ghost use Rattle.review_commands.specs.Words.{all_rule, cautions_app, compare_app, grants_app, judging_app, name_rule};
-ghost use Rattle.review_commands.specs.Words.{named_app, pair_app, paths_app, program_app, requests_rule, root_rule, roots_app};
+ghost use Rattle.review_commands.specs.Words.{named_app, pair_app, paths_app, policy_app, program_app, requests_rule, root_rule, roots_app};
 ghost use Rattle.review_commands.specs.Words.{without_rule};
 
 use clap::{Arg, ArgAction, Command};
@@ -33,15 +33,33 @@ fn root<'a>(alloc: Global) -> Arg<'a>
     )
 }
 
+// Returns `NAME FILE [--root DIR]`.
+fn with_policy<'a>(alloc: Global, name: &'a str, about: &'a str) -> Result<Command<'a>, AllocError>
+    ensures app { IfOk result (λ c. app_of c ≡ policy_app name.entry.now) }
+    ensures local { IfOk result (λ c. (fields_of c).has_globals ≡ false) }
+{
+    Command::new(alloc, name)
+        .about(about)
+        .arg(file(alloc))?
+        .arg(root(alloc))
+}
+
+// Returns `check FILE [--root DIR]`.
+fn check<'a>(alloc: Global) -> Result<Command<'a>, AllocError>
+    ensures app { IfOk result (λ c. app_of c ≡ policy_app (codes "check")) }
+    ensures local { IfOk result (λ c. (fields_of c).has_globals ≡ false) }
+{
+    let about = "Lists undefined, cyclic and unused aliases";
+    with_policy(alloc, "check", about)
+}
+
 // Returns `cautions FILE [--root DIR] [--links F] [--without CLASS]...`.
 fn cautions<'a>(alloc: Global) -> Result<Command<'a>, AllocError>
     ensures app { IfOk result (λ c. app_of c ≡ cautions_app) }
     ensures local { IfOk result (λ c. (fields_of c).has_globals ≡ false) }
 {
-    Command::new(alloc, "cautions")
-        .about("Lists what sudo reads or judges otherwise")
-        .arg(file(alloc))?
-        .arg(root(alloc))?
+    let about = "Lists what sudo reads or judges otherwise";
+    with_policy(alloc, "cautions", about)?
         .arg(name_option(
             alloc,
             "links",
@@ -55,10 +73,7 @@ fn with_paths<'a>(alloc: Global, name: &'a str, about: &'a str) -> Result<Comman
     ensures app { IfOk result (λ c. app_of c ≡ paths_app name.entry.now) }
     ensures local { IfOk result (λ c. (fields_of c).has_globals ≡ false) }
 {
-    Command::new(alloc, name)
-        .about(about)
-        .arg(file(alloc))?
-        .arg(root(alloc))?
+    with_policy(alloc, name, about)?
         .arg(path_option(alloc, "users", "The known users, as CSV"))?
         .arg(path_option(alloc, "hosts", "The known hosts, as CSV"))
 }
@@ -182,7 +197,8 @@ fn named<'a>(alloc: Global) -> Command<'a>
 pub(crate) fn program<'a>(alloc: Global) -> Result<Command<'a>, AllocError>
     ensures app { IfOk result (λ c. app_of c ≡ program_app) }
 {
-    let with_cautions = with_subcommand(named(alloc), cautions(alloc))?;
+    let with_check = with_subcommand(named(alloc), check(alloc))?;
+    let with_cautions = with_subcommand(with_check, cautions(alloc))?;
     let with_report = with_subcommand(with_cautions, report(alloc))?;
     let with_grants = with_subcommand(with_report, grants(alloc))?;
     let with_roots = with_subcommand(with_grants, roots(alloc))?;

@@ -5,6 +5,7 @@ mod cautions;
 mod change;
 mod change_rows;
 mod changes;
+mod check;
 mod command_line;
 mod compare;
 mod ending;
@@ -29,6 +30,7 @@ mod words;
 
 pub use cautions::cautions_run;
 pub use changes::changes_run;
+pub use check::check_run;
 pub use compare::{compare_run, quiet_comparisons_say_same};
 pub use fault::TableFault;
 pub use grants::{ScopeNames, grants_run};

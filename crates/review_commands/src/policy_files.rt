@@ -1,8 +1,9 @@
 //! The files of the policy that a command is about.
-ghost use Rattle.std.specs.Prelude.{None};
+ghost use Rattle.run_base.specs.Holding.{any_holdings};
 
 use crate::request::PolicyPath;
 use review_files::{HostTree, Rooted};
+use review_texts::Masked;
 use run_base::{Disk, Files, FilesFault};
 use std::alloc::{AllocError, Global};
 use sudo_text::Seq;
@@ -14,22 +15,28 @@ pub(crate) enum PolicyFiles<'a> {
     Below(Rooted<HostTree<'a>>),
 }
 
-/// Returns the files of a policy. Returns `AllocError` if allocation failed.
+/// Returns the files of a policy, with their masked texts. Returns `AllocError` if allocation failed.
 pub(crate) fn policy_files<'a>(
     rt: &'a HostRuntime,
     policy: PolicyPath<'_>,
-) -> Result<PolicyFiles<'a>, AllocError> {
+) -> Result<Masked<PolicyFiles<'a>>, AllocError> {
     match policy.root {
-        None => Ok(PolicyFiles::Machine(Disk::new(rt))),
+        None => Ok(machine_files(rt)),
         Some(root) => {
             let folder = Seq::from_slice(rt.alloc(), root.as_bytes())?;
-            Ok(PolicyFiles::Below(Rooted::new(HostTree::new(rt), folder)))
+            let files = Rooted::new(HostTree::new(rt), folder);
+            Ok(Masked::new(PolicyFiles::Below(files)))
         }
     }
 }
 
+/// Returns the files of this machine, with their masked texts.
+pub(crate) fn machine_files<'a>(rt: &'a HostRuntime) -> Masked<PolicyFiles<'a>> {
+    Masked::new(PolicyFiles::Machine(Disk::new(rt)))
+}
+
 impl Files for PolicyFiles<'_> {
-    ghost held = { λ _. None };
+    ghost held = { λ _. any_holdings };
 
     fn file(&mut self, alloc: Global, path: &[u8]) -> Result<Option<Seq<u8>>, FilesFault> {
         match self {

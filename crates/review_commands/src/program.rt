@@ -4,10 +4,11 @@ ghost use Rattle.review_commands.specs.Words.{WorkersFit};
 
 use crate::cautions::cautions_run;
 use crate::changes::changes_run;
+use crate::check::check_run;
 use crate::compare::compare_run;
 use crate::grants::{ScopeNames, grants_run};
 use crate::links::{LinksFault, machine_links};
-use crate::policy_files::policy_files;
+use crate::policy_files::{machine_files, policy_files};
 use crate::program_name::PROGRAM;
 use crate::report::{Form, report_into};
 use crate::request::{Asked, PairPaths, Paths, PolicyPath};
@@ -19,7 +20,7 @@ use audit_files::Device;
 use clap::Error;
 use clap::error::ErrorKind;
 use review_cautions::{CautionClass, Link, usual_links};
-use run_base::{Disk, OpenFault, SystemOpener, open, report_explained};
+use run_base::{OpenFault, SystemOpener, open, report_explained};
 use std::alloc::AllocError;
 use std::env;
 use std::sync::Wait;
@@ -86,6 +87,23 @@ fn links_at(rt: &HostRuntime, path: Option<&str>) -> Result<Vec<Link>, LinksFaul
     match open(alloc, &SystemOpener::new(rt), path) {
         Ok(mut file) => machine_links(alloc, &mut file),
         Err(fault) => Err(LinksFault::Unopened(fault)),
+    }
+}
+
+// Lists the findings on a policy, and returns the exit status.
+fn run_check(rt: &HostRuntime, policy: PolicyPath<'_>) -> u8 {
+    let alloc = rt.alloc();
+    let mut out = Device::new(rt.stdout());
+    let mut err = Device::new(rt.stderr());
+    match policy_files(rt, policy) {
+        Ok(mut files) => check_run(
+            alloc,
+            policy.file.as_bytes(),
+            &mut files,
+            &mut out,
+            &mut err,
+        ),
+        Err(refused) => report_explained(alloc, PROGRAM, refused, &mut err),
     }
 }
 
@@ -224,9 +242,9 @@ fn run_compare(rt: &HostRuntime, paths: PairPaths<'_>, names: ScopeNames<'_>) ->
             compare_run(
                 alloc,
                 paths.old.as_bytes(),
-                &mut Disk::new(rt),
+                &mut machine_files(rt),
                 paths.new.as_bytes(),
-                &mut Disk::new(rt),
+                &mut machine_files(rt),
                 &mut users,
                 &mut hosts,
                 names,
@@ -266,9 +284,9 @@ fn run_changes<T: Threads + Wait + Sync>(
                 alloc,
                 threads,
                 paths.old.as_bytes(),
-                &mut Disk::new(rt),
+                &mut machine_files(rt),
                 paths.new.as_bytes(),
-                &mut Disk::new(rt),
+                &mut machine_files(rt),
                 &mut users,
                 &mut hosts,
                 sources,
@@ -293,6 +311,7 @@ fn run<T: Threads + Wait + Sync>(rt: &HostRuntime, threads: &T, asked: Asked<'_>
     requires { WorkersFit asked }
 {
     match asked {
+        Asked::Check { policy } => run_check(rt, policy),
         Asked::Cautions {
             policy,
             links,

@@ -29,6 +29,10 @@ pub struct PairPaths<'a> {
 /// A command that the command line asks for, with its texts as given.
 #[derive(Debug, Drop)]
 pub enum Asked<'a> {
+    /// `check FILE [--root DIR]`: lists the findings on the aliases of a policy.
+    Check {
+        policy: PolicyPath<'a>,
+    },
     /// `cautions FILE [--root DIR] [--links F] [--without CLASS]...`: lists what sudo reads or judges otherwise on a machine that
     /// has the links of a file, or the usual ones, but for some classes.
     Cautions {

@@ -81,6 +81,20 @@ fn policy_of<'a>(given: &ArgMatches<'a>) -> Option<PolicyPath<'a>>
     Some(PolicyPath { file, root })
 }
 
+// Returns the command of the values of `check`.
+fn asked_check<'a>(given: &ArgMatches<'a>) -> Result<Asked<'a>, Unasked>
+    ensures stated { IfOk result
+        (λ a. HoldsCommand a (codes "check", rows_of (found_of given.now))) }
+    ensures workers { IfOk result WorkersFit }
+    ensures nothing { IfErr result (λ e. e ≢ Unasked.Memory
+        → AsksNothing (codes "check", rows_of (found_of given.now))) }
+{
+    match policy_of(given) {
+        Some(policy) => Ok(Asked::Check { policy }),
+        None => Err(Unasked::Missing),
+    }
+}
+
 // Returns the command of the values of `cautions`.
 fn asked_cautions<'a>(alloc: Global, given: &ArgMatches<'a>) -> Result<Asked<'a>, Unasked>
     ensures stated { IfOk result
@@ -291,6 +305,9 @@ fn asked_by<'a>(alloc: Global, name: &str, given: &ArgMatches<'a>) -> Result<Ask
     if name == "cautions" {
         return asked_cautions(alloc, given);
     }
+    if name == "check" {
+        return asked_check(given);
+    }
     if name == "compare" {
         return asked_compare(alloc, given);
     }
@@ -370,7 +387,7 @@ fn asked_of<'a, S: AsStr>(
 }
 
 /// Returns the command that the words ask for, the program's own name first, as `clap` reads them:
-/// `cautions FILE [--links F] [--without CLASS]...`, `report FILE --users F --hosts F [--workers N] [NAME=PATH]...`,
+/// `check FILE`, `cautions FILE [--links F] [--without CLASS]...`, `report FILE --users F --hosts F [--workers N] [NAME=PATH]...`,
 /// `grants FILE --users F --hosts F [--user NAME] [--host NAME]`, `roots FILE --users F --hosts F [--all]`,
 /// `subjects FILE --users F --hosts F`,
 /// `rules FILE --users F --hosts F [--workers N] [NAME=PATH]...`,

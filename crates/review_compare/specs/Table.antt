@@ -9,6 +9,7 @@ use Rattle.sudo_match.specs.declared.request.Verdict.TheVariants.{NoMatch}
 use Rattle.sudo_match.specs.KnownRows.{KnownRows}
 use Rattle.sudo_parser.specs.Texts.{atom_text, user_text}
 use Rattle.review_grants.specs.GrantRows.{joined}
+use Rattle.review_texts.specs.Masks.{as_written}
 use Rattle.review_compare.specs.declared.compared.Compared.{Compared}
 use Rattle.review_compare.specs.declared.compared.Compared.TheVariants as compared
 use Rattle.review_compare.specs.declared.compared.Decider.{Decider}
@@ -85,7 +86,7 @@ row_verdict (Some d) = answered_by d.place d.answer
 
 abbrev pub row_texts : Option Decider → List ℕ
 row_texts None = []
-row_texts (Some d) = 44 ∷ 32 ∷ atom_text d.atom
+row_texts (Some d) = 44 ∷ 32 ∷ as_written (atom_text d.atom)
 
 -- the record of rows that may answer a command otherwise: their commands, with a comma and a space between them, and what each answers
 abbrev pub may_line : List (List ℕ) → List (List ℕ) → List ℕ → Option Decider → Option Decider → List ℕ

@@ -9,6 +9,7 @@ use crate::compared::{Compared, Decider};
 use crate::row::Row;
 use crate::witness::Witness;
 use audit_files::{push_field, push_next_field, set_place, set_tags, verdict_word};
+use review_texts::as_written;
 use std::alloc::{AllocError, Global};
 use sudo_grammar::{Atom, Signed};
 use sudo_match::{Directory, Group, Machine, Person, Verdict};
@@ -302,14 +303,14 @@ fn atom_text_of(alloc: Global, atom: &Atom) -> Result<Vec<u8>, AllocError>
     member_text(alloc, &member)
 }
 
-// Appends the command of a row behind a comma and a space, if there is one.
+// Appends the command of a row, as a policy has it, behind a comma and a space, if there is one.
 fn push_atom(alloc: Global, text: &mut Vec<u8>, row: &Option<Decider>) -> Result<(), AllocError>
     ensures { OnOk result (text.new.items ≡ text.old.items ++ table.row_texts row.now) }
 {
     if let Some(decider) = row {
         let own = atom_text_of(alloc, &decider.atom)?;
         text.extend_from_slice(b", ")?;
-        text.extend_from_slice(own.as_slice())?;
+        text.extend_from_slice(as_written(own.as_slice()))?;
     }
     Ok(())
 }

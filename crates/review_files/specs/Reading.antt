@@ -1,6 +1,7 @@
 -- What is read at the path to which a path below a folder leads.
 use Rattle.std.specs.Prelude.{◌≡◌, ◌⊎◌, ℕ, Bool, true, false, if◌then◌else◌, List, [], ◌∷◌, ◌++◌, Option, None, Ok, Err, Result, IfOk}
 use Rattle.std.specs.Prelude.{IsErrOf}
+use Rattle.run_base.specs.Holding.{Holdings}
 use Rattle.run_base.specs.declared.files.FilesFault.{FilesFault}
 use Rattle.run_base.specs.declared.files.FilesFault.TheVariants as faults
 use Rattle.run_base.specs.declared.obstacle.Obstacle.TheVariants as obstacles
@@ -64,3 +65,14 @@ abbrev pub AreNames : (List ℕ → Entry → Type 0) → (List ℕ → List (Li
 AreNames shows lists folder path result =
     IsErrOf result faults.Memory
     ⊎ ((outcome : Outcome) × Resolves shows folder path outcome × GivesNames shows lists folder path outcome result)
+
+-- what reading the files and folders below the folder may give
+abbrev pub below : (List ℕ → Entry → Type 0) → (List ℕ → Option (List ℕ) → Type 0) → (List ℕ → List (List ℕ) → Type 0) → List ℕ
+    → Holdings
+below shows reads lists folder = record {
+  is_file = λ path text. IsText shows reads folder path (Ok text);
+  is_folder = λ path names. AreNames shows lists folder path (Ok names);
+  is_unreadable = λ path why. IsText shows reads folder path (Err (faults.Failed why))
+      ⊎ AreNames shows lists folder path (Err (faults.Failed why));
+  is_long = λ path. IsText shows reads folder path (Err faults.TooLong);
+}

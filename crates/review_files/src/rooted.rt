@@ -1,6 +1,5 @@
 //! The files of a policy below a folder.
-ghost use Rattle.std.specs.Prelude.{◌≡◌, ◌≢◌, ◌⊎◌, Option, None, IfErr, IfOk, IsErrOf};
-ghost use Rattle.run_base.specs.Holding.{Holdings, HoldsFile, HoldsFolder, IsFileFault, IsFolderFault};
+ghost use Rattle.std.specs.Prelude.{◌≡◌, ◌≢◌, ◌⊎◌, IfErr, IfOk, IsErrOf};
 ghost use Rattle.review_files.specs.Reading as spec;
 ghost use Rattle.review_files.specs.declared.tree.Kind.TheVariants as kinds;
 ghost use Rattle.review_files.specs.declared.walk.Outcome.TheVariants as outcomes;
@@ -124,38 +123,13 @@ fn names_below<T: Tree>(
 }
 
 impl<T: Tree> Files for Rooted<T> {
-    ghost held = { λ _. None };
+    ghost held = { λ s. spec.below (T.shows s.tree) (T.reads s.tree) (T.lists s.tree) s.folder };
 
-    fn file(&mut self, alloc: Global, path: &[u8]) -> Result<Option<Seq<u8>>, FilesFault>
-        ensures text { IfOk result (λ text. HoldsFile None path.now text) }
-        ensures fault { IfErr result (IsFileFault None path.now) }
-        ensures same { ◌≡◌ {A = Option Holdings} None None }
-        ensures below { spec.IsText (T.shows self.old.tree) (T.reads self.old.tree)
-            self.old.folder path.now result }
-        ensures kept { self.new ≡ self.old }
-    {
+    fn file(&mut self, alloc: Global, path: &[u8]) -> Result<Option<Seq<u8>>, FilesFault> {
         text_below(&self.tree, alloc, self.folder.as_slice(), path)
     }
 
-    fn main_file(&mut self, alloc: Global, path: &[u8]) -> Result<Option<Seq<u8>>, FilesFault>
-        ensures text { IfOk result (λ text. HoldsFile None path.now text) }
-        ensures fault { IfErr result (IsFileFault None path.now) }
-        ensures same { ◌≡◌ {A = Option Holdings} None None }
-        ensures below { spec.IsText (T.shows self.old.tree) (T.reads self.old.tree)
-            self.old.folder path.now result }
-        ensures kept { self.new ≡ self.old }
-    {
-        self.file(alloc, path)
-    }
-
-    fn folder(&mut self, alloc: Global, path: &[u8]) -> Result<Seq<Seq<u8>>, FilesFault>
-        ensures names { IfOk result (λ names. HoldsFolder None path.now names) }
-        ensures fault { IfErr result (IsFolderFault None path.now) }
-        ensures same { ◌≡◌ {A = Option Holdings} None None }
-        ensures below { spec.AreNames (T.shows self.old.tree) (T.lists self.old.tree)
-            self.old.folder path.now result }
-        ensures kept { self.new ≡ self.old }
-    {
+    fn folder(&mut self, alloc: Global, path: &[u8]) -> Result<Seq<Seq<u8>>, FilesFault> {
         names_below(&self.tree, alloc, self.folder.as_slice(), path)
     }
 }

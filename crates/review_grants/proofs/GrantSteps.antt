@@ -26,6 +26,7 @@ use Rattle.sudo_policy.specs.Written.{negated_if, written_form}
 use Rattle.sudo_text.specs.declared.line.Place.{Place}
 use Rattle.sudo_verdict.specs.Grants.{Grant, entry_grants, grant_of, grants, place_grants, section_grants}
 use Rattle.sudo_verdict.specs.Tagged.{runas_at, tags_at}
+use Rattle.review_texts.specs.Masks.{as_written}
 use Rattle.review_grants.proofs.ListSteps.{flat_map-next, take-whole}
 use Rattle.review_grants.specs.declared.in_force.InForce.{InForce as TheState}
 use Rattle.review_grants.specs.Body.Heads.{HoldsBehind, command_head, command_row, command_rows, grant_line, lines_of, place_rows}
@@ -71,7 +72,7 @@ module _ (p : Policy) (d : KnownRows) where
       let u : List ℕ = users_text p d users in
       let h : List ℕ = hosts_text p d s.hosts in
       let r : List ℕ = runas_text p (runas_at s.commands i) in
-      let end : List (List ℕ) = sign_text w.negated ∷ atom_text w.atom ∷ tags_text (tags_at s.commands i) ∷ [] ∷ [] in
+      let end : List (List ℕ) = sign_text w.negated ∷ as_written (atom_text w.atom) ∷ tags_text (tags_at s.commands i) ∷ [] ∷ [] in
       let all : text (u ∷ h ∷ r ∷ end) ≡ text (u ∷ []) ++ (text (h ∷ []) ++ (text (r ∷ []) ++ text end)) =
       fields_text-append (u ∷ []) (h ∷ r ∷ end)
       ∙ ap (λ (t : List ℕ). text (u ∷ []) ++ t) (fields_text-append (h ∷ []) (r ∷ end)

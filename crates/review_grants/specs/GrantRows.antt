@@ -16,6 +16,7 @@ use Rattle.sudo_parser.specs.Texts.{atom_text, signed_text, user_text}
 use Rattle.sudo_policy.specs.Written.{written_form}
 use Rattle.sudo_verdict.specs.Grants.{Grant, grants}
 use Rattle.sudo_verdict.specs.Values.{user_allowed, host_allowed}
+use Rattle.review_texts.specs.Masks.{as_written}
 
 -- texts with a comma and a space between them: each behind the two, without the first two
 abbrev pub joined : List (List ℕ) → List ℕ
@@ -65,7 +66,7 @@ grants_header = codes "place" ∷ codes "users" ∷ codes "hosts" ∷ codes "run
 -- the record of a grant; nothing is noted that it depends on
 abbrev pub grant_fields : List (List ℕ) → Policy → KnownRows → Grant → List (List ℕ)
 grant_fields files p d g = place_text files g.place ∷ users_text p d g.users ∷ hosts_text p d g.hosts
-    ∷ runas_text p g.runas ∷ sign_text g.negated ∷ atom_text g.atom ∷ tags_text g.tags ∷ [] ∷ []
+    ∷ runas_text p g.runas ∷ sign_text g.negated ∷ as_written (atom_text g.atom) ∷ tags_text g.tags ∷ [] ∷ []
 
 -- a user list allows the user that is asked about, if any
 abbrev pub is_for_user : Policy → Option Person → List Member → Bool

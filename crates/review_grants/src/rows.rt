@@ -9,6 +9,7 @@ ghost use Rattle.sudo_policy.specs.Body.Resolving.{command_resolves, rule_resolv
 ghost use Rattle.sudo_policy.specs.Resolving.{resolves};
 ghost use Rattle.sudo_verdict.specs.Body.Resolved.{body_resolves};
 ghost use Rattle.sudo_verdict.specs.Grants.{entry_grants, section_grants};
+ghost use Rattle.review_texts.specs.Masks.{as_written};
 ghost use Rattle.review_grants.specs.Body.Heads as heads;
 ghost use Rattle.review_grants.specs.GrantRows.{grants_header, is_for_host, is_for_user};
 ghost use Rattle.review_grants.specs.GrantRows.{sign_text};
@@ -18,6 +19,7 @@ use crate::in_force::InForce;
 use crate::names::Names;
 use crate::runas_text::written;
 use audit_files::{push_field, push_next_field, push_place, put_tags};
+use review_texts::as_written;
 use std::alloc::{AllocError, Global};
 use std::slice;
 use sudo_grammar::{Entry, EntryBody, Signed};
@@ -62,16 +64,17 @@ fn sign(negated: bool) -> &'static [u8]
     if negated { b"!" } else { b"" }
 }
 
-// Appends a written-out command without its sign, as a field behind a comma.
+// Appends a written-out command without its sign, as a policy has it, as a field behind a comma.
 fn push_atom(alloc: Global, text: &mut Vec<u8>, member: &Signed) -> Result<(), AllocError>
     ensures { OnOk result (text.new.items
-        ≡ text.old.items ++ fields_text default_writer (atom_text member.now.atom ∷ [])) }
+        ≡ text.old.items
+        ++ fields_text default_writer (as_written (atom_text member.now.atom) ∷ [])) }
 {
     let own = member_text(alloc, member)?;
     if member.negated {
-        return push_one(text, &own[1..]);
+        return push_one(text, as_written(&own[1..]));
     }
-    push_one(text, own.as_slice())
+    push_one(text, as_written(own.as_slice()))
 }
 
 // Appends the tags, nothing for what the grant depends on, and the end of the record.

@@ -1,8 +1,8 @@
 -- The blocks of a text.
 use Rattle.std.proofs.Common.{◌≡◌, ℕ, zero, suc, ◌-◌, true, false, cond, List, [], ◌∷◌, ◌++◌, length}
 use Rattle.std.proofs.Common.{drop, take, refl, sym, ◌∙◌, ap, subst, arith, append_assoc}
-use Rattle.std.proofs.Common.{Result}
-use Rattle.std.specs.Prelude.{◌==◌, ◌<◌}
+use Rattle.std.proofs.Common.{Result, Ok, Err}
+use Rattle.std.specs.Prelude.{◌==◌, ◌<◌, OnOk}
 use Rattle.std.proofs.lemmas.Bool.Decides.{nat_tests}
 use Rattle.sudo_text.specs.declared.line.Line.{Line}
 use Rattle.sudo_text.specs.declared.fault.TextFault.{TextFault}
@@ -55,6 +55,12 @@ pub block_before : (line : Line) (lines : List Line) (bytes rest after block tai
     → AreBlocks (line ∷ lines) rest (block ++ tail)
 block_before line lines bytes rest after block tail front back is are =
     (block, tail, subst (λ (b : List ℕ). IsBlock line b block) front is, subst (λ (r : List ℕ). AreBlocks lines r tail) back are, refl)
+
+-- A block is appended.
+pub pushed : {A E : Type 0} (r : Result A E) (line : Line) (bytes block old new : List ℕ) → IsBlock line bytes block
+    → OnOk r (new ≡ old ++ block) → OnOk r ((part : List ℕ) × IsBlock line bytes part × (new ≡ old ++ part))
+pushed (Ok done) line bytes block old new is put = (block, is, put)
+pushed (Err fault) line bytes block old new is put = tt
 
 -- A text with a fault stays.
 pub text_fault : (fault : TextFault) (wanted : Result (List Line) TextFault) (text : List ℕ) → (fault ≡ faults.Memory → ⊥)

@@ -1,5 +1,5 @@
 -- What the fixed parser reads is left alone.
-use Rattle.std.proofs.Common.{◌≡◌, ℕ, suc, List, [], ◌∷◌, ◌++◌, length, drop}
+use Rattle.std.proofs.Common.{◌≡◌, ℕ, suc, Bool, true, false, List, [], ◌∷◌, ◌++◌, length, drop}
 use Rattle.std.proofs.Common.{take, refl, sym, ◌∙◌, ap, subst, arith}
 use Rattle.std.proofs.Common.{Ok, Option, None, Some, inl, inr, ℕ}
 use Rattle.std.proofs.lemmas.List.{take-append-drop}
@@ -12,7 +12,8 @@ use Rattle.sudo_grammar.specs.Faults.{HasRoom}
 use Rattle.sudo_parser.specs.Parsed.{room_after, IsEntryOf, entry_of, AreEntriesAfter, AreEntries}
 use Rattle.review_texts.specs.Places.{whole_room}
 use Rattle.review_texts.specs.Masks.{IsUnmasked}
-use Rattle.review_texts.specs.MaskedTexts.{written, IsBlock, AreBlocks, IsTextBy, IsMaskedText}
+use Rattle.review_texts.specs.MaskedTexts.{written, HasEntries, IsBlock, AreBlocks, IsTextBy, IsMaskedBy, IsMaskedText}
+use Rattle.review_texts.specs.Words.{has_word}
 use Rattle.review_texts.proofs.LoneLines.{read_unrefused}
 use Rattle.review_texts.proofs.Blocks.{take_written}
 
@@ -35,15 +36,21 @@ unmasked before line entry is mask masks =
     read_unrefused line (entry_of line entry ++ []) mask.form
     (entry, [], read_alone before line entry is, refl, refl) masks.refused
 
-block_kept : (line : Line) (bytes block : List ℕ) → IsUnmasked line → IsBlock line bytes block → block ≡ bytes
-block_kept line bytes block none (inl kept) = kept.1
-block_kept line bytes block none (inr (masked, (mask, is, rest), whole)) = absurd (none mask is)
+has_entries : (before : List Entry) (line : Line) (entry : Option EntryBody) → IsEntryOf (room_after before) line entry
+    → HasEntries line
+has_entries before line entry is = (entry_of line entry ++ [], (entry, [], read_alone before line entry is, refl, refl))
+
+block_kept : (line : Line) (bytes block : List ℕ) → IsUnmasked line → HasEntries line → IsBlock line bytes block → block ≡ bytes
+block_kept line bytes block none read (inl (other, inl ((torn, plain, (unread, spaced)), same))) = absurd (unread read)
+block_kept line bytes block none read (inl (other, inr kept)) = kept.1
+block_kept line bytes block none read (inr (masked, (mask, is, rest), whole)) = absurd (none mask is)
 
 blocks_kept : (before : List Entry) (lines : List Line) (entries : List Entry) (text masked : List ℕ)
     → AreEntriesAfter before lines entries → AreBlocks lines text masked → masked ≡ text
 blocks_kept before [] entries text masked are blocks = blocks
 blocks_kept before (line ∷ lines) entries text masked (entry, rest, is, are, whole) (block, tail, first, others, joined) =
-    let kept : block ≡ written line text = block_kept line (written line text) block (unmasked before line entry is) first in
+    let kept : block ≡ written line text = block_kept line (written line text) block (unmasked before line entry is)
+    (has_entries before line entry is) first in
     let after : tail ≡ drop (length (written line text)) text =
     blocks_kept (before ++ entry_of line entry) lines rest (drop (length (written line text)) text) tail are others in
     let front : written line text ≡ take (length (written line text)) text = sym (take_written (suc (length line.joins)) text) in
@@ -52,5 +59,8 @@ blocks_kept before (line ∷ lines) entries text masked (entry, rest, is, are, w
 
 pub text_kept : (text masked : List ℕ) (lines : List Line) (entries : List Entry) → lines_of 0 text ≡ Ok lines
     → AreEntries lines entries → IsMaskedText text masked → masked ≡ text
-text_kept text masked lines entries cut are is =
-    blocks_kept [] lines entries text masked are (subst (λ r. IsTextBy r text masked) cut is)
+text_kept text masked lines entries cut are is = by (has_word text) is
+  where
+    by : (t : Bool) → IsMaskedBy t text masked → masked ≡ text
+    by true is = blocks_kept [] lines entries text masked are (subst (λ r. IsTextBy r text masked) cut is)
+    by false same = same

@@ -6,3 +6,4 @@ pub mod Kept
 pub mod Newlines
 pub mod NoPath
 pub mod OneMask
+pub mod Beginnings

@@ -1,9 +1,9 @@
 -- The newlines of masked texts.
-use Rattle.std.proofs.Common.{◌≡◌, ℕ, zero, suc, ◌+◌, ◌-◌, true, not, cond, List, [], ◌∷◌, ◌++◌}
-use Rattle.std.proofs.Common.{length, drop, take, refl, ◌∙◌, ap, subst, arith}
+use Rattle.std.proofs.Common.{◌≡◌, ℕ, zero, suc, ◌+◌, ◌-◌, Bool, true, false, cond, List, [], ◌∷◌, ◌++◌}
+use Rattle.std.proofs.Common.{length, drop, take, refl, sym, ◌∙◌, ap, subst, arith}
 use Rattle.std.proofs.Common.{Result, Ok, Err, inl, inr}
-use Rattle.std.specs.Prelude.{◌==◌, ◌&&◌, replicate, nat_le}
-use Rattle.std.specs.List.{list_any}
+use Rattle.std.specs.Prelude.{◌==◌, ◌&&◌, replicate, nat_le, nat_lt, nat_eq, codes}
+use Rattle.std.specs.List.{starts_with}
 use Rattle.std.proofs.lemmas.Bool.{and_parts, eqb-true}
 use Rattle.std.proofs.lemmas.List.{take-append-drop}
 use Rattle.std.proofs.lemmas.List.Sums.{sum_by-append}
@@ -13,8 +13,9 @@ use Rattle.sudo_text.specs.Lines.{lines_of, text_limit}
 use Rattle.sudo_grammar.specs.declared.fault.Unsupported.{Unsupported}
 use Rattle.sudo_grammar.specs.declared.fault.Unsupported.TheVariants as forms
 use Rattle.review_texts.specs.declared.mask.Mask.{Mask}
-use Rattle.review_texts.specs.Masks.{is_tight, is_fit, newline_count, replacement, behind, IsBehind, IsMasked, most_masks}
-use Rattle.review_texts.specs.MaskedTexts.{written, IsBlock, AreBlocks, IsTextBy, IsMaskedText}
+use Rattle.review_texts.specs.Masks.{are_alike, is_fit, newline_count, replacement, behind, IsBehind, IsMasked, most_masks}
+use Rattle.review_texts.specs.MaskedTexts.{written, tears_defaults, spaced, IsBlock, AreBlocks, IsTextBy, IsMaskedBy, IsMaskedText}
+use Rattle.review_texts.specs.Words.{has_word}
 use Rattle.review_texts.specs.Laws.{StaysBy}
 use Rattle.review_texts.proofs.Blocks.{take_written}
 
@@ -59,7 +60,7 @@ all_behind (suc n) line masked none (inr (mask, is, rest)) =
 
 fit_count : (line : Line) → is_fit line ≡ true → newline_count line.text ≡ 0
 fit_count line fit =
-    let parts = and_parts (not (list_any (is_tight line.text) line.joins) && nat_le (length line.text) (text_limit - 4))
+    let parts = and_parts (has_word line.text && are_alike line.text line.joins && nat_le (length line.text) (text_limit - 8))
     (newline_count line.text == 0) fit in
     eqb-true (newline_count line.text) 0 parts.1
 
@@ -67,13 +68,34 @@ masked_count : (line masked : Line) → IsMasked line masked → newline_count m
 masked_count line masked (mask, is, rest) =
     all_behind most_masks (behind line mask) masked (behind_count line mask (fit_count line is.fit)) rest
 
+torn_count : (text joins : List ℕ) → tears_defaults text joins ≡ true → newline_count text ≡ 0
+torn_count text [] torn = absurd cc
+torn_count text (join ∷ later) torn =
+    let parts = and_parts ((join == 8) && starts_with nat_eq text (codes "Defaults") && are_alike text later
+    && nat_lt (length text) text_limit)
+    (newline_count text == 0) torn in
+    eqb-true (newline_count text) 0 parts.1
+
+spaced_count : (line : Line) → newline_count line.text ≡ 0 → newline_count (spaced line).text ≡ 0
+spaced_count line none =
+    let whole = ap (λ (xs : List ℕ). newline_count xs) (take-append-drop 8 line.text) in
+    let cut = count_append (take 8 line.text) (drop 8 line.text) in
+    let put = count_append (take 8 line.text) (32 ∷ drop 8 line.text) in
+    omega (arith, none, whole, cut, put)
+
 block_count : (line : Line) (bytes block : List ℕ) → IsBlock line bytes block → newline_count block ≡ newline_count bytes
-block_count line bytes block (inl kept) = ap (λ (xs : List ℕ). newline_count xs) kept.1
-block_count line bytes block (inr (masked, is, whole)) =
+block_count line bytes block (inl (none, inr kept)) = ap (λ (xs : List ℕ). newline_count xs) kept.1
+block_count line bytes block (inl (none, inl spaces)) =
+    let text = spaced_count line (torn_count line.text line.joins spaces.0.0) in
+    let joined = count_append (spaced line).text (replicate (newline_count bytes) 10) in
+    let more = count_newlines (newline_count bytes) in
+    ap (λ (xs : List ℕ). newline_count xs) spaces.1 ∙ (omega (arith, joined, text, more))
+block_count line bytes block (inr (masked, is, inr kept)) = ap (λ (xs : List ℕ). newline_count xs) kept.1
+block_count line bytes block (inr (masked, is, inl stands)) =
     let none = masked_count line masked is in
     let joined = count_append masked.text (replicate (newline_count bytes) 10) in
     let more = count_newlines (newline_count bytes) in
-    ap (λ (xs : List ℕ). newline_count xs) whole ∙ (omega (arith, joined, none, more))
+    ap (λ (xs : List ℕ). newline_count xs) stands.1 ∙ (omega (arith, joined, none, more))
 
 blocks_stay : (lines : List Line) (text masked : List ℕ) → AreBlocks lines text masked → StaysBy lines text masked
 blocks_stay [] text masked are = are
@@ -96,13 +118,30 @@ stays_count (line ∷ lines) text masked (part, rest, same, whole, stay) =
     let second = count_append (take (length (written line text)) text) (drop (length (written line text)) text) in
     omega (arith, others, joined, first, front, cut, second, same)
 
+-- The text itself stays.
+same_stays : (lines : List Line) (text masked : List ℕ) → masked ≡ text → StaysBy lines text masked
+same_stays [] text masked same = same
+same_stays (line ∷ lines) text masked same =
+    let front = take_written (suc (length line.joins)) text in
+    let cut = take-append-drop (length (written line text)) text in
+    let rest : List ℕ = drop (length (written line text)) text in
+    (written line text, rest, refl, same ∙ (sym cut ∙ ap (λ (xs : List ℕ). xs ++ rest) front), same_stays lines rest rest refl)
+
 pub text_stays : (text masked : List ℕ) (lines : List Line) → lines_of 0 text ≡ Ok lines → IsMaskedText text masked
     → StaysBy lines text masked
-text_stays text masked lines cut is = blocks_stay lines text masked (subst (λ r. IsTextBy r text masked) cut is)
+text_stays text masked lines cut is = go (has_word text) is
+  where
+    go : (b : Bool) → IsMaskedBy b text masked → StaysBy lines text masked
+    go true is = blocks_stay lines text masked (subst (λ r. IsTextBy r text masked) cut is)
+    go false same = same_stays lines text masked same
 
 pub text_count : (text masked : List ℕ) → IsMaskedText text masked → newline_count masked ≡ newline_count text
-text_count text masked is = go (lines_of 0 text) is
+text_count text masked is = by (has_word text) is
   where
     go : (r : Result (List Line) TextFault) → IsTextBy r text masked → newline_count masked ≡ newline_count text
     go (Ok lines) are = stays_count lines text masked (blocks_stay lines text masked are)
     go (Err fault) kept = ap (λ (xs : List ℕ). newline_count xs) kept
+
+    by : (b : Bool) → IsMaskedBy b text masked → newline_count masked ≡ newline_count text
+    by true is = go (lines_of 0 text) is
+    by false same = ap (λ (xs : List ℕ). newline_count xs) same

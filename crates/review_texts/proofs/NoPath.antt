@@ -13,19 +13,30 @@ use Rattle.review_texts.specs.Places.{no_path}
 between : (b : ℕ) → (nat_le 122 b && nat_le b 97) ≡ false
 between b = grind (arith, nat_tests)
 
-one_byte : (a : Bool) → ((a && false) && true) ≡ false
-one_byte true = refl
-one_byte false = refl
+and_none : (p q : Bool) → q ≡ false → (p && q) ≡ false
+and_none true q none = none
+and_none false q none = refl
 
-more_bytes : (a slash rest holds : Bool) → holds ≡ false → ((a && ((slash && (holds || false)) && rest)) && true) ≡ false
-more_bytes false slash rest holds e = refl
-more_bytes true false rest holds e = refl
-more_bytes true true rest false e = refl
-more_bytes true true rest true e = absurd (true≢false e)
+whole_none : (p : Bool) → p ≡ false → (p && true) ≡ false
+whole_none true none = none
+whole_none false none = refl
+
+bracket_none : (slash rest holds : Bool) → holds ≡ false → ((slash && (holds || false)) && rest) ≡ false
+bracket_none true rest true none = absurd (true≢false none)
+bracket_none true rest false none = refl
+bracket_none false rest holds none = refl
 
 pub nothing_fits : (command arguments : List ℕ) → command_fits (atoms.Command (map plain no_path) None) command arguments ≡ false
 unfolding begins range_at items_after bracket_after part_at parts_after fits command_fits
 nothing_fits [] arguments = refl
-nothing_fits (a ∷ []) arguments = one_byte (a == 47)
-nothing_fits (a ∷ b ∷ rest) arguments =
-    more_bytes (a == 47) (not (b == 47)) (fits [] rest Not) (nat_le 122 b && nat_le b 97) (between b)
+nothing_fits (a ∷ []) arguments = whole_none _ (and_none (a == 47) _ refl)
+nothing_fits (a ∷ b ∷ []) arguments = whole_none _ (and_none (a == 47) _ (and_none (b == 108) _ refl))
+nothing_fits (a ∷ b ∷ c ∷ []) arguments = whole_none _ (and_none (a == 47) _ (and_none (b == 108) _ (and_none (c == 105) _ refl)))
+nothing_fits (a ∷ b ∷ c ∷ d ∷ []) arguments =
+    whole_none _ (and_none (a == 47) _ (and_none (b == 108) _ (and_none (c == 105) _ (and_none (d == 115) _ refl))))
+nothing_fits (a ∷ b ∷ c ∷ d ∷ e ∷ []) arguments =
+    whole_none _ (and_none (a == 47) _ (and_none (b == 108) _ (and_none (c == 105) _ (and_none (d == 115) _
+    (and_none (e == 116) _ refl)))))
+nothing_fits (a ∷ b ∷ c ∷ d ∷ e ∷ f ∷ rest) arguments =
+    whole_none _ (and_none (a == 47) _ (and_none (b == 108) _ (and_none (c == 105) _ (and_none (d == 115) _ (and_none (e == 116) _
+    (bracket_none (not (f == 47)) (fits [] rest Not) (nat_le 122 f && nat_le f 97) (between f)))))))

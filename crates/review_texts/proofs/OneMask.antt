@@ -1,7 +1,6 @@
 -- A text has one masked text.
-use Rattle.std.proofs.Common.{◌≡◌, ℕ, zero, suc, ◌≤◌, List, [], ◌∷◌, ◌++◌, length, drop, sym, ◌∙◌}
+use Rattle.std.proofs.Common.{◌≡◌, ℕ, zero, suc, ◌≤◌, Bool, true, false, List, [], ◌∷◌, ◌++◌, length, drop, sym, ◌∙◌}
 use Rattle.std.proofs.Common.{ap, subst, arith, Result, Ok, Err, inl, inr}
-use Rattle.std.specs.Prelude.{replicate}
 use Rattle.std.proofs.lemmas.Bool.{cases_lt}
 use Rattle.sudo_text.specs.declared.line.Line.{Line}
 use Rattle.sudo_text.specs.declared.fault.TextFault.{TextFault}
@@ -9,8 +8,9 @@ use Rattle.sudo_text.specs.Lines.{lines_of}
 use Rattle.sudo_grammar.specs.declared.fault.Unsupported.{Unsupported}
 use Rattle.sudo_grammar.specs.declared.fault.Unsupported.TheVariants as forms
 use Rattle.review_texts.specs.declared.mask.Mask.{Mask}
-use Rattle.review_texts.specs.Masks.{Stands, behind, IsMask, IsBehind, IsMasked, most_masks, newline_count}
-use Rattle.review_texts.specs.MaskedTexts.{written, IsBlock, AreBlocks, IsTextBy, IsMaskedText}
+use Rattle.review_texts.specs.Masks.{Stands, behind, IsMask, IsBehind, IsMasked, most_masks}
+use Rattle.review_texts.specs.MaskedTexts.{written, IsBlock, IsBlockBy, IsPlainBlock, AreBlocks, IsTextBy, IsMaskedBy, IsMaskedText}
+use Rattle.review_texts.specs.Words.{has_word}
 use Rattle.review_texts.proofs.LoneLines.{one_form}
 
 one_end : (line : Line) (form : Unsupported) (start a b : ℕ) → Stands line form start a → Stands line form start b → a ≡ b
@@ -51,13 +51,25 @@ one_masked line a b (mask, is, rest) (other, stands, more) =
     let same : other ≡ mask = one_mask line other mask stands is in
     one_behind most_masks (behind line mask) a b rest (subst (λ (m : Mask). IsBehind most_masks (behind line m) b) same more)
 
+one_block_by : (line masked : Line) (bytes a b : List ℕ) → IsBlockBy line masked bytes a → IsBlockBy line masked bytes b → a ≡ b
+one_block_by line masked bytes a b (inl is) (inl other) = is.1 ∙ sym other.1
+one_block_by line masked bytes a b (inl is) (inr other) = absurd (other.0 is.0)
+one_block_by line masked bytes a b (inr is) (inl other) = absurd (is.0 other.0)
+one_block_by line masked bytes a b (inr is) (inr other) = is.1 ∙ sym other.1
+
+one_plain : (line : Line) (bytes a b : List ℕ) → IsPlainBlock line bytes a → IsPlainBlock line bytes b → a ≡ b
+one_plain line bytes a b (inl is) (inl other) = is.1 ∙ sym other.1
+one_plain line bytes a b (inl is) (inr other) = absurd (other.0 is.0)
+one_plain line bytes a b (inr is) (inl other) = absurd (is.0 other.0)
+one_plain line bytes a b (inr is) (inr other) = is.1 ∙ sym other.1
+
 one_block : (line : Line) (bytes a b : List ℕ) → IsBlock line bytes a → IsBlock line bytes b → a ≡ b
-one_block line bytes a b (inl kept) (inl same) = kept.1 ∙ sym same.1
+one_block line bytes a b (inl kept) (inl same) = one_plain line bytes a b kept.1 same.1
 one_block line bytes a b (inl kept) (inr (masked, (mask, is, rest), whole)) = absurd (kept.0 mask is)
 one_block line bytes a b (inr (masked, (mask, is, rest), whole)) (inl kept) = absurd (kept.0 mask is)
 one_block line bytes a b (inr (masked, is, whole)) (inr (other, stands, all)) =
     let same : masked ≡ other = one_masked line masked other is stands in
-    whole ∙ (ap (λ (l : Line). l.text ++ replicate (newline_count bytes) 10) same ∙ sym all)
+    one_block_by line other bytes a b (subst (λ (l : Line). IsBlockBy line l bytes a) same whole) all
 
 one_blocks : (lines : List Line) (text a b : List ℕ) → AreBlocks lines text a → AreBlocks lines text b → a ≡ b
 one_blocks [] text a b is other = is ∙ sym other
@@ -67,8 +79,12 @@ one_blocks (line ∷ lines) text a b (block, rest, is, are, whole) (part, tail, 
     whole ∙ (ap (λ (xs : List ℕ). xs ++ rest) first ∙ (ap (λ (xs : List ℕ). part ++ xs) more ∙ sym all))
 
 pub one_text : (text a b : List ℕ) → IsMaskedText text a → IsMaskedText text b → a ≡ b
-one_text text a b is other = go (lines_of 0 text) is other
+one_text text a b is other = by (has_word text) is other
   where
     go : (r : Result (List Line) TextFault) → IsTextBy r text a → IsTextBy r text b → a ≡ b
     go (Ok lines) is other = one_blocks lines text a b is other
     go (Err fault) is other = is ∙ sym other
+
+    by : (t : Bool) → IsMaskedBy t text a → IsMaskedBy t text b → a ≡ b
+    by true is other = go (lines_of 0 text) is other
+    by false is other = is ∙ sym other

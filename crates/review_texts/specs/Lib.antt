@@ -1,5 +1,7 @@
+pub mod Words
 pub mod Options
 pub mod Places
 pub mod Masks
 pub mod MaskedTexts
 pub mod Laws
+pub mod Body

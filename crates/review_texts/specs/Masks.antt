@@ -1,14 +1,16 @@
 -- The masks of a line: what stands in place of the forms that are refused by name, so that the line is read and says of
 -- each command what sudo says.
-use Rattle.std.specs.Prelude.{◌≡◌, ℕ, zero, suc, ◌+◌, ◌-◌, ◌<◌, ◌⊎◌, Bool, true, not, ◌&&◌, ◌||◌, ◌==◌, nat_le}
-use Rattle.std.specs.Prelude.{List, [], ◌++◌, length, take, drop, replicate, slice_index, count_by}
+use Rattle.std.specs.Prelude.{◌≡◌, ℕ, zero, suc, ◌+◌, ◌-◌, ◌<◌, ◌⊎◌, Bool, true, not, ◌&&◌, ◌||◌, ◌==◌, nat_le, nat_lt}
+use Rattle.std.specs.Prelude.{List, [], ◌∷◌, ◌++◌, length, take, drop, replicate, slice_index, count_by, codes, if◌then◌else◌}
 use Rattle.std.specs.List.{list_any}
+use Rattle.std.specs.Str.{bytes_eq}
 use Rattle.sudo_text.specs.declared.line.Line.{Line}
 use Rattle.sudo_text.specs.Bytes.{is_blank}
 use Rattle.sudo_text.specs.Lines.{text_limit}
 use Rattle.sudo_grammar.specs.declared.fault.Unsupported.{Unsupported}
 use Rattle.sudo_grammar.specs.declared.fault.Unsupported.TheVariants as forms
 use Rattle.review_texts.specs.declared.mask.Mask.{Mask}
+use Rattle.review_texts.specs.Words.{has_word}
 use Rattle.review_texts.specs.Options.{option_end}
 use Rattle.review_texts.specs.Places.{IsRefusedFor, with_text, StandsOption, StandsList, no_path}
 
@@ -18,18 +20,32 @@ Stands line forms.CommandOption start end = StandsOption line start × (end ≡ 
 Stands line forms.List start end = StandsList line start × (end ≡ start + 4)
 Stands line _ start end = ⊥
 
--- two physical lines are joined where neither a blank nor a comma stands before the join: sudo separates words there
+-- two physical lines are joined where neither a blank nor a comma stands before the join, or an escaped one, or where a
+-- colon stands behind it: sudo may separate words there, or want both on one line
 abbrev pub is_tight : List ℕ → ℕ → Bool
-is_tight text join = not (is_blank (slice_index text (join - 1)) || (slice_index text (join - 1) == 44))
+is_tight text join =
+    not (is_blank (slice_index text (join - 1)) || (slice_index text (join - 1) == 44))
+    || (slice_index text (join - 2) == 92) || (slice_index text join == 58)
+
+-- each further physical line of the line begins behind the one before it, which is not empty
+abbrev pub is_rising : List ℕ → Bool
+is_rising [] = true
+is_rising (join ∷ []) = true
+is_rising (join ∷ next ∷ rest) = nat_lt join next && is_rising (next ∷ rest)
+
+-- sudo joins the text there as the reader does: it is torn nowhere, and nothing in it may be a comment
+abbrev pub are_alike : List ℕ → List ℕ → Bool
+are_alike text joins =
+    not (list_any (is_tight text) joins) && is_rising joins && ((length joins == 0) || not (list_any (λ b. b == 35) text))
 
 abbrev pub newline_count : List ℕ → ℕ
 newline_count text = count_by (λ b. b == 10) text
 
--- the line has no such join, nor a newline, as no line of a file has, and there is room for a longer text
+-- the line may have a mask: one of the words stands in it, sudo joins it alike, it has no newline, as no line of a file has,
+-- and there is room for a longer text
 abbrev pub is_fit : Line → Bool
 is_fit line =
-    not (list_any (is_tight line.text) line.joins) && nat_le (length line.text) (text_limit - 4)
-    && (newline_count line.text == 0)
+    has_word line.text && are_alike line.text line.joins && nat_le (length line.text) (text_limit - 8) && (newline_count line.text == 0)
 
 -- the first place at which a form stands
 pub record IsFirstStand (line : Line) (form : Unsupported) (mask : Mask) : Type 0 where
@@ -52,6 +68,10 @@ abbrev pub replacement : Unsupported → ℕ → List ℕ
 replacement forms.CommandOption len = replicate len 32
 replacement forms.List len = no_path
 replacement _ len = []
+
+-- the text of a command as a policy has it: `list` for the path that stands in its place
+abbrev pub as_written : List ℕ → List ℕ
+as_written text = if bytes_eq text no_path then codes "list" else text
 
 -- the line with what stands in place of the mask
 abbrev pub behind : Line → Mask → Line

@@ -9,10 +9,10 @@ use Rattle.sudo_text.specs.Bytes.{is_blank, is_control, is_digit}
 use Rattle.sudo_text.specs.Pieces.{skip, is_mark_byte}
 use Rattle.sudo_grammar.specs.Words.{is_name_byte}
 
--- the options that say how a command runs, and not who may run it; CHROOT, NOTBEFORE and NOTAFTER are none of these
+-- the options that say how a command runs, and not who may run it; CHROOT, NOTBEFORE and NOTAFTER are none of these, nor
+-- are those that few builds of sudo take: APPARMOR_PROFILE, PRIVS and LIMITPRIVS
 abbrev pub is_exact_option : List ℕ → Bool
-is_exact_option w = list_any (bytes_eq w) (codes "CWD" ∷ codes "TIMEOUT" ∷ codes "ROLE" ∷ codes "TYPE"
-    ∷ codes "APPARMOR_PROFILE" ∷ codes "PRIVS" ∷ codes "LIMITPRIVS" ∷ [])
+is_exact_option w = list_any (bytes_eq w) (codes "CWD" ∷ codes "TIMEOUT" ∷ codes "ROLE" ∷ codes "TYPE" ∷ [])
 
 -- a byte of a value: neither a blank nor one of `! = , : ( )`, `"`, `#`, `>`, a backslash or a control byte
 abbrev pub is_value_byte : ℕ → Bool

@@ -72,7 +72,7 @@ begins_at at (Some member) = member.token.start == at
 
 -- what stands in place of `list`: a path that no command has, since its brackets have no character
 abbrev pub no_path : List ℕ
-no_path = codes "/[z-a]"
+no_path = codes "/list[z-a]"
 
 -- the line up to an offset, with that path there; a Defaults line goes on with a parameter
 abbrev pub with_path : List ℕ → ℕ → List ℕ

@@ -1,6 +1,6 @@
 //! Bytes of lines.
-ghost use Rattle.std.specs.Prelude.{◌≡◌, ◌≤◌, ◌+◌, max, length, slice_index, drop};
-ghost use Rattle.std.specs.List.{take_while};
+ghost use Rattle.std.specs.Prelude.{◌≡◌, ◌==◌, ◌≤◌, ◌+◌, max, length, slice_index, drop};
+ghost use Rattle.std.specs.List.{list_any, take_while};
 ghost use Rattle.std.specs.Str.{bytes_eq};
 ghost use Rattle.sudo_text.specs.Bytes as spec;
 ghost use Rattle.sudo_text.specs.Pieces as pieces;
@@ -93,4 +93,11 @@ pub(crate) fn newline_count(text: &[u8]) -> usize
     ensures { result ≡ masks.newline_count text.now }
 {
     text.iter().filter(|byte| **byte == b'\n').count()
+}
+
+/// Whether a byte stands in a text.
+pub(crate) fn has_byte(text: &[u8], byte: u8) -> bool
+    ensures { result ≡ list_any (λ b. b == byte) text.now }
+{
+    text.iter().any(|b| *b == byte)
 }

@@ -1,7 +1,6 @@
 //! Files whose texts are masked.
-ghost use Rattle.std.specs.Prelude.{◌≡◌, ℕ, List, Option, None, IfErr, IfOk};
-ghost use Rattle.run_base.specs.Holding.{Holdings, HoldsFile, HoldsFolder, IsFileFault, IsFolderFault};
-ghost use Rattle.review_texts.specs.MaskedTexts.{IsMaskedFile};
+ghost use Rattle.std.specs.Prelude.{◌≡◌, IfErr, IfOk};
+ghost use Rattle.review_texts.specs.MaskedTexts.{IsMaskedFile, masked_holdings};
 
 use crate::texts::mask_text;
 use run_base::{Files, FilesFault};
@@ -29,48 +28,25 @@ fn mask_file(alloc: Global, text: Option<Seq<u8>>) -> Result<Option<Seq<u8>>, Fi
     ensures memory { IfErr result (λ fault. fault ≡ FilesFault.Memory) }
 {
     match text {
-        Some(text) => Ok(Some(mask_text(alloc, text.as_slice())?)),
+        Some(text) => Ok(Some(mask_text(alloc, text)?)),
         None => Ok(None),
     }
 }
 
 impl<F: Files> Files for Masked<F> {
-    ghost held = { λ _. None };
+    ghost held = { λ s. masked_holdings (F.held s.files) };
 
-    fn file(&mut self, alloc: Global, path: &[u8]) -> Result<Option<Seq<u8>>, FilesFault>
-        ensures text { IfOk result (λ text. HoldsFile None path.now text) }
-        ensures fault { IfErr result (IsFileFault None path.now) }
-        ensures same { ◌≡◌ {A = Option Holdings} None None }
-        ensures masked { IfOk result (λ masked. (text : Option (List ℕ))
-            × HoldsFile (F.held self.old.files) path.now text × IsMaskedFile text masked) }
-        ensures own_fault { IfErr result (IsFileFault (F.held self.old.files) path.now) }
-        ensures kept { F.held self.new.files ≡ F.held self.old.files }
-    {
+    fn file(&mut self, alloc: Global, path: &[u8]) -> Result<Option<Seq<u8>>, FilesFault> {
         let text = self.files.file(alloc, path)?;
         mask_file(alloc, text)
     }
 
-    fn main_file(&mut self, alloc: Global, path: &[u8]) -> Result<Option<Seq<u8>>, FilesFault>
-        ensures text { IfOk result (λ text. HoldsFile None path.now text) }
-        ensures fault { IfErr result (IsFileFault None path.now) }
-        ensures same { ◌≡◌ {A = Option Holdings} None None }
-        ensures masked { IfOk result (λ masked. (text : Option (List ℕ))
-            × HoldsFile (F.held self.old.files) path.now text × IsMaskedFile text masked) }
-        ensures own_fault { IfErr result (IsFileFault (F.held self.old.files) path.now) }
-        ensures kept { F.held self.new.files ≡ F.held self.old.files }
-    {
+    fn main_file(&mut self, alloc: Global, path: &[u8]) -> Result<Option<Seq<u8>>, FilesFault> {
         let text = self.files.main_file(alloc, path)?;
         mask_file(alloc, text)
     }
 
-    fn folder(&mut self, alloc: Global, path: &[u8]) -> Result<Seq<Seq<u8>>, FilesFault>
-        ensures names { IfOk result (λ names. HoldsFolder None path.now names) }
-        ensures fault { IfErr result (IsFolderFault None path.now) }
-        ensures same { ◌≡◌ {A = Option Holdings} None None }
-        ensures held { IfOk result (λ names. HoldsFolder (F.held self.old.files) path.now names) }
-        ensures own_fault { IfErr result (IsFolderFault (F.held self.old.files) path.now) }
-        ensures kept { F.held self.new.files ≡ F.held self.old.files }
-    {
+    fn folder(&mut self, alloc: Global, path: &[u8]) -> Result<Seq<Seq<u8>>, FilesFault> {
         self.files.folder(alloc, path)
     }
 }

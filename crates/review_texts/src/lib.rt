@@ -12,9 +12,10 @@ mod reading;
 mod texts;
 #[cfg(test)]
 mod trials;
+mod words;
 
 pub use files::Masked;
 pub use laws::{lines_stay, no_command_is_listed, read_lines_are_left_alone, texts_have_one_mask};
 pub use mask::Mask;
-pub use masks::{mask_line, mask_of};
+pub use masks::{as_written, mask_line, mask_of};
 pub use texts::mask_text;

@@ -5,9 +5,10 @@ ghost use Rattle.review_texts.specs.Masks as spec;
 ghost use Rattle.review_texts.specs.Masks.{Stands, IsFirstStand, IsMask, IsUnmasked, IsMasked, IsBehind};
 
 use crate::Mask;
-use crate::bytes::{from, is_blank, newline_count, peek};
+use crate::bytes::{from, has_byte, is_blank, is_text, newline_count, peek};
 use crate::places::{NO_PATH, stands, with_text};
 use crate::reading::refused_form;
+use crate::words::has_word;
 use std::alloc::{AllocError, Global};
 use sudo_grammar::Unsupported;
 use sudo_text::{Line, Seq, TEXT_LIMIT};
@@ -15,38 +16,64 @@ use sudo_text::{Line, Seq, TEXT_LIMIT};
 // The most masks of a line, after its first.
 const MOST_MASKS: u32 = 256;
 
-// Whether neither a blank nor a comma stands before a join.
+// Whether neither a blank nor a comma stands before a join, or an escaped one, or a colon stands behind it.
 fn is_tight(text: &[u8], join: u32) -> bool
     ensures { result ≡ spec.is_tight text.now join }
 {
-    let before = peek(text, (join as usize).saturating_sub(1));
+    let join = join as usize;
+    let before = peek(text, join.saturating_sub(1));
     !(is_blank(before) || before == b',')
+        || peek(text, join.saturating_sub(2)) == b'\\'
+        || peek(text, join) == b':'
 }
 
-// Whether a line has such a join.
-fn has_tight_join(line: &Line) -> bool
-    ensures { result ≡ list_any (spec.is_tight line.now.text) line.now.joins }
+// Whether joins rise.
+fn is_rising(joins: &[u32]) -> bool
+    ensures { result ≡ spec.is_rising joins.now }
 {
-    let text = line.text.as_slice();
-    line.joins
-        .as_slice()
-        .iter()
-        .any(|join| is_tight(text, *join))
+    let Some((first, after)) = joins.split_first() else {
+        return true;
+    };
+    let mut last = *first;
+    let mut left = after;
+    while let Some((join, rest)) = left.split_first() {
+        if *join <= last {
+            return false;
+        }
+        last = *join;
+        left = rest;
+    }
+    true
 }
 
-// Whether a line has no such join, nor a newline, and there is room for a longer text.
+// Whether one of these joins is tight.
+fn has_tight_join(text: &[u8], joins: &[u32]) -> bool
+    ensures { result ≡ list_any (spec.is_tight text.now) joins.now }
+{
+    joins.iter().any(|join| is_tight(text, *join))
+}
+
+/// Whether sudo joins a text there as the reader does.
+pub(crate) fn are_alike(text: &[u8], joins: &[u32]) -> bool
+    ensures { result ≡ spec.are_alike text.now joins.now }
+{
+    !has_tight_join(text, joins) && is_rising(joins) && (joins.is_empty() || !has_byte(text, b'#'))
+}
+
+// Whether a line may have a mask.
 fn is_fit(line: &Line) -> bool
     ensures fit { result ≡ spec.is_fit line.now }
-    ensures short { IsTrue result → length line.now.text + 4 ≤ TEXT_LIMIT }
+    ensures short { IsTrue result → length line.now.text + 8 ≤ TEXT_LIMIT }
 {
-    !has_tight_join(line)
-        && line.text.len() <= TEXT_LIMIT - 4
+    has_word(line.text.as_slice())
+        && are_alike(line.text.as_slice(), line.joins.as_slice())
+        && line.text.len() <= TEXT_LIMIT - 8
         && newline_count(line.text.as_slice()) == 0
 }
 
 // Returns the first place at which a form stands, if it does. Returns `AllocError` if allocation fails.
 fn first_stand(alloc: Global, line: &Line, form: Unsupported) -> Result<Option<Mask>, AllocError>
-    requires { length line.now.text + 4 ≤ TEXT_LIMIT }
+    requires { length line.now.text + 8 ≤ TEXT_LIMIT }
     ensures { IfOk result (λ found. MatchOption found
         ((start end : ℕ) → Stands line.now form start end → ⊥)
         (λ mask. IsFirstStand line.now form mask)) }
@@ -95,6 +122,17 @@ fn push_replacement(
         }
         Unsupported::List => text.extend_from_slice(NO_PATH),
         _ => Ok(()),
+    }
+}
+
+/// Returns the text of a command as a policy has it: `list` for the path that stands in its place.
+pub fn as_written(text: &[u8]) -> &[u8]
+    ensures { result.now ≡ spec.as_written text.now }
+{
+    if is_text(text, NO_PATH) {
+        b"list"
+    } else {
+        text
     }
 }
 

@@ -14,9 +14,6 @@ fn is_exact_option(name: &[u8]) -> bool
         || is_text(name, b"TIMEOUT")
         || is_text(name, b"ROLE")
         || is_text(name, b"TYPE")
-        || is_text(name, b"APPARMOR_PROFILE")
-        || is_text(name, b"PRIVS")
-        || is_text(name, b"LIMITPRIVS")
 }
 
 // Whether a byte may stand in a value.

@@ -13,7 +13,7 @@ use sudo_grammar::{Binding, CommandSpec, EntryBody, Member, Unsupported};
 use sudo_text::{Line, Seq, TEXT_LIMIT};
 
 /// What stands in place of `list`: a path that no command has.
-pub(crate) const NO_PATH: &[u8] = b"/[z-a]";
+pub(crate) const NO_PATH: &[u8] = b"/list[z-a]";
 
 /// Returns a line of a text, without joins, at the place of another.
 pub(crate) fn with_text(alloc: Global, line: &Line, text: Seq<u8>) -> Line
@@ -99,7 +99,7 @@ fn line_with_path(alloc: Global, line: &Line, at: usize) -> Result<Line, AllocEr
     requires { at ≤ length line.now.text }
     ensures front { IfOk result (λ front. front
         ≡ spec.with_text line.now (spec.with_path line.now.text at)) }
-    ensures short { IfOk result (λ front. length front.text ≤ at + 8) }
+    ensures short { IfOk result (λ front. length front.text ≤ at + 12) }
 {
     let mut text = Seq::from_slice(alloc, &line.text.as_slice()[..at])?;
     text.extend_from_slice(NO_PATH)?;
@@ -182,7 +182,7 @@ fn option_stands(alloc: Global, line: &Line, at: usize) -> Result<bool, AllocErr
 // Whether `list` stands at an offset as a command. Returns `AllocError` if allocation fails.
 fn list_stands(alloc: Global, line: &Line, at: usize) -> Result<bool, AllocError>
     requires within { at ≤ length line.now.text }
-    requires short { length line.now.text + 4 ≤ TEXT_LIMIT }
+    requires short { length line.now.text + 8 ≤ TEXT_LIMIT }
     ensures yes { IfOk result (λ found. IsTrue found → spec.StandsList line.now at) }
     ensures only { IfOk result (λ found. spec.StandsList line.now at → IsTrue found) }
 {
@@ -202,7 +202,7 @@ pub(crate) fn stands(
     at: usize,
 ) -> Result<Option<usize>, AllocError>
     requires within { at ≤ length line.now.text }
-    requires short { length line.now.text + 4 ≤ TEXT_LIMIT }
+    requires short { length line.now.text + 8 ≤ TEXT_LIMIT }
     ensures { IfOk result (λ found. MatchOption found
         ((end : ℕ) → Stands line.now form at end → ⊥)
         (λ end. Stands line.now form at end)) }

@@ -1,9 +1,10 @@
 //! What a line by itself is read as.
-ghost use Rattle.std.specs.Prelude.{◌≡◌, ◌≢◌, ◌≤◌, length, IfOk, MatchOption, None};
+ghost use Rattle.std.specs.Prelude.{◌≡◌, ◌≢◌, ◌≤◌, length, Decides, IfOk, MatchOption, None};
 ghost use Rattle.sudo_text.specs.declared.line.Place.{Place as APlace};
 ghost use Rattle.sudo_grammar.specs.declared.policy.EntryBody.{EntryBody as AnEntry};
 ghost use Rattle.sudo_grammar.specs.declared.fault.Unsupported.{Unsupported as AForm};
 ghost use Rattle.review_texts.specs.Places.{IsEntryIn, IsRefusedFor};
+ghost use Rattle.review_texts.specs.MaskedTexts.{HasEntries, IsRead};
 
 use std::alloc::{AllocError, Global};
 use std::slice;
@@ -50,6 +51,29 @@ pub(crate) fn entry_in(alloc: Global, line: &Line) -> Result<Option<EntryBody>, 
             Ok(None)
         }
     }
+}
+
+/// Whether a line by itself is read. Returns `AllocError` if allocation fails.
+pub(crate) fn has_entries(alloc: Global, line: &Line) -> Result<bool, AllocError>
+    requires { length line.now.text ≤ TEXT_LIMIT }
+    ensures { IfOk result (λ read. Decides read (HasEntries line.now)) }
+{
+    let fault = match parse(alloc, slice::from_ref(line)) {
+        Ok(_) => return Ok(true),
+        Err(fault) => fault,
+    };
+    unless_memory(fault)?;
+    Ok(false)
+}
+
+/// Whether a line, which may be longer than one of a file, is read by itself. Returns `AllocError` if allocation fails.
+pub(crate) fn is_read(alloc: Global, line: &Line) -> Result<bool, AllocError>
+    ensures { IfOk result (λ read. Decides read (IsRead line.now)) }
+{
+    if line.text.len() > TEXT_LIMIT {
+        return Ok(false);
+    }
+    has_entries(alloc, line)
 }
 
 /// Returns the form for which a line by itself is refused by name, if it is. Returns `AllocError` if allocation fails.

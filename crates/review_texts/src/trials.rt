@@ -3,11 +3,12 @@
 use crate::mask_text;
 use std::alloc::{AllocError, Global};
 use std::test::Fail;
+use sudo_text::Seq;
 
 // Whether the masked text of each text is the other.
 fn are_masked(alloc: Global, rows: &[(&str, &str)]) -> Result<bool, AllocError> {
     for (text, wanted) in rows {
-        let masked = mask_text(alloc, text.as_bytes())?;
+        let masked = mask_text(alloc, Seq::from_slice(alloc, text.as_bytes())?)?;
         if masked.as_slice() != wanted.as_bytes() {
             return Ok(false);
         }
@@ -18,7 +19,9 @@ fn are_masked(alloc: Global, rows: &[(&str, &str)]) -> Result<bool, AllocError> 
 // Whether each text stays as it is.
 fn are_kept(alloc: Global, texts: &[&str]) -> Result<bool, AllocError> {
     for text in texts {
-        if mask_text(alloc, text.as_bytes())?.as_slice() != text.as_bytes() {
+        if mask_text(alloc, Seq::from_slice(alloc, text.as_bytes())?)?.as_slice()
+            != text.as_bytes()
+        {
             return Ok(false);
         }
     }
@@ -56,10 +59,6 @@ fn options_become_blanks(rt: HostRuntime) -> Result<(), Fail> {
             "CWD ALL = CWD=/x ALL # CWD=/x ALL",
             "CWD ALL =        ALL # CWD=/x ALL",
         ),
-        (
-            "u ALL = PRIVS=p LIMITPRIVS=p APPARMOR_PROFILE=p ALL",
-            "u ALL =                                         ALL",
-        ),
     ];
     assert!(rt; are_masked(rt.alloc(), &rows)?);
     Ok(())
@@ -68,27 +67,30 @@ fn options_become_blanks(rt: HostRuntime) -> Result<(), Fail> {
 #[test]
 fn a_list_becomes_a_path(rt: HostRuntime) -> Result<(), Fail> {
     let rows = [
-        ("user1 ALL = list\n", "user1 ALL = /[z-a]\n"),
+        ("user1 ALL = list\n", "user1 ALL = /list[z-a]\n"),
         (
             "list list = (list : list) list",
-            "list list = (list : list) /[z-a]",
+            "list list = (list : list) /list[z-a]",
         ),
         (
             "a ALL = !list, NOPASSWD: list: web = list # list",
-            "a ALL = !/[z-a], NOPASSWD: /[z-a]: web = /[z-a] # list",
+            "a ALL = !/list[z-a], NOPASSWD: /list[z-a]: web = /list[z-a] # list",
         ),
-        ("a ALL = /bin/ls list, list", "a ALL = /bin/ls list, /[z-a]"),
+        (
+            "a ALL = /bin/ls list, list",
+            "a ALL = /bin/ls list, /list[z-a]",
+        ),
         (
             "Cmnd_Alias A = list : B = /bin/ls, list",
-            "Cmnd_Alias A = /[z-a] : B = /bin/ls, /[z-a]",
+            "Cmnd_Alias A = /list[z-a] : B = /bin/ls, /list[z-a]",
         ),
         (
             "Defaults!list,/bin/ls !env_reset",
-            "Defaults!/[z-a],/bin/ls !env_reset",
+            "Defaults!/list[z-a],/bin/ls !env_reset",
         ),
         (
             "a ALL = TIMEOUT=5 list, CWD=/x !list",
-            "a ALL =           /[z-a],        !/[z-a]",
+            "a ALL =           /list[z-a],        !/list[z-a]",
         ),
     ];
     assert!(rt; are_masked(rt.alloc(), &rows)?);
@@ -100,16 +102,75 @@ fn lines_stay_at_their_places(rt: HostRuntime) -> Result<(), Fail> {
     let rows = [
         (
             "# a\n  u ALL = list, \\\n  TIMEOUT=5 \\\n\t/bin/ls\n\n",
-            "# a\nu ALL = /[z-a],           /bin/ls\n\n\n\n",
+            "# a\nu ALL = /list[z-a],           /bin/ls\n\n\n\n",
         ),
         (
             "u ALL = list\nb ALL = \\\n ALL\r\n",
-            "u ALL = /[z-a]\nb ALL = \\\n ALL\r\n",
+            "u ALL = /list[z-a]\nb ALL = \\\n ALL\r\n",
         ),
-        ("u ALL = list, \\\n list", "u ALL = /[z-a], /[z-a]\n"),
-        ("\n\nu ALL = list\r\n\n", "\n\nu ALL = /[z-a]\n\n"),
+        (
+            "u ALL = list, \\\n list",
+            "u ALL = /list[z-a], /list[z-a]\n",
+        ),
+        ("\n\n  u ALL = list\n\n", "\n\nu ALL = /list[z-a]\n\n"),
     ];
     assert!(rt; are_masked(rt.alloc(), &rows)?);
+    Ok(())
+}
+
+#[test]
+fn faults_stay_at_their_columns(rt: HostRuntime) -> Result<(), Fail> {
+    let rows = [
+        ("u ALL = CWD=/x foo", "u ALL =        foo"),
+        ("u ALL = CWD=/x PRIVS=p ALL", "u ALL =        PRIVS=p ALL"),
+    ];
+    assert!(rt; are_masked(rt.alloc(), &rows)?);
+    let texts = [
+        "u ALL = list, foo",
+        "u ALL = CWD=/x /b, \\\n foo",
+        "u ALL = CWD=/x /b, CHROOT=/c /d, \\\n /e",
+    ];
+    assert!(rt; are_kept(rt.alloc(), &texts)?);
+    Ok(())
+}
+
+#[test]
+fn a_torn_defaults_line_gets_a_blank(rt: HostRuntime) -> Result<(), Fail> {
+    let rows = [
+        (
+            "Defaults\\\n    secure_path=/bin\\:/sbin\nu ALL = list",
+            "Defaults secure_path=/bin\\:/sbin\n\nu ALL = /list[z-a]",
+        ),
+        (
+            "Defaults\\\n  env_reset, \\\n  lecture=\"never\"",
+            "Defaults env_reset, lecture=\"never\"\n\n",
+        ),
+    ];
+    assert!(rt; are_masked(rt.alloc(), &rows)?);
+    let texts = [
+        "Defaults\\\n ALL ALL = ALL",
+        "Defaults\\\n  env_reset\\\n, lecture",
+        "Defaults\\\n  env_reset\r\n",
+        "Defaults\\\n  env_reset, \\\n  lecture # x",
+        "Defaults\\\n@h env_reset",
+        "Defaults @h\\\n env_reset",
+    ];
+    assert!(rt; are_kept(rt.alloc(), &texts)?);
+    Ok(())
+}
+
+#[test]
+fn what_sudo_may_join_otherwise_stays(rt: HostRuntime) -> Result<(), Fail> {
+    let texts = [
+        "u ALL = list\r\n",
+        "u ALL = CWD=/x NOPASSWD \\\n: /b",
+        "u ALL = CWD=/x /b, \\\n\\\n /c",
+        "u ALL = CWD=/x /b, \\\n /c # d",
+        "u ALL = CWD=/x\\\n /b",
+        "u\\ \\\n x ALL = CWD=/x /b",
+        "u\\,\\\n x ALL = CWD=/x /b",
+    ];
+    assert!(rt; are_kept(rt.alloc(), &texts)?);
     Ok(())
 }
 
@@ -134,6 +195,7 @@ fn what_sudo_refuses_stays(rt: HostRuntime) -> Result<(), Fail> {
         "u ALL = list x",
         "u ALL = \"list\"",
         "u ALL = CHROOT=/x CWD=/y /b",
+        "u ALL = PRIVS=p ALL",
         "foo ALL = CWD=~ron /bin/ls \\\n",
         "u ALL = CWD=/x\\\n/y /b",
         "Defaults!list",

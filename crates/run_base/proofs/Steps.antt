@@ -7,13 +7,13 @@ use Rattle.sudo_load.specs.declared.fault.LoadFault.{LoadFault}
 use Rattle.sudo_load.specs.declared.fault.LoadFault.TheVariants as load_faults
 use Rattle.sudo_load.specs.declared.fault.Want.{Want}
 use Rattle.sudo_load.specs.declared.supply.Supply.{Supply}
-use Rattle.run_base.specs.Holding.{AreHeld, Holdings, HoldsFile}
+use Rattle.run_base.specs.Holding.{AreHeld, Holdings}
 use Rattle.run_base.specs.Loading.{EndsIn, IsLoaded, IsNoPolicy, IsNotChecked, IsOfContent, text_at_fault}
 use Rattle.run_base.specs.Body.Loading.{IsNotCheckedOf, IsNotHanded}
 use Rattle.run_base.specs.declared.fault.PolicyFault.{PolicyFault}
 use Rattle.run_base.specs.declared.fault.PolicyFault.TheVariants as faults
 
-pub not_passed : (held : Option Holdings) (path : List ℕ) (policy : Policy) (fault : PolicyFault)
+pub not_passed : (held : Holdings) (path : List ℕ) (policy : Policy) (fault : PolicyFault)
     → IsLoaded held path policy → IsNotCheckedOf policy fault → IsNotChecked held path fault
 not_passed held path policy (faults.Errors lines) loaded h = (policy, loaded, h)
 not_passed held path policy faults.Memory loaded h = tt
@@ -22,13 +22,13 @@ not_passed held path policy (faults.CannotRead unread why) loaded h = absurd h
 not_passed held path policy (faults.TooLong long) loaded h = absurd h
 not_passed held path policy faults.TooManyFiles loaded h = absurd h
 
-pub not_passed_of : {T : Type 0} (held : Option Holdings) (path : List ℕ) (policy : Policy) (r : Result T PolicyFault)
+pub not_passed_of : {T : Type 0} (held : Holdings) (path : List ℕ) (policy : Policy) (r : Result T PolicyFault)
     → IsLoaded held path policy → IfErr r (IsNotCheckedOf policy) → IfErr r (IsNotChecked held path)
 not_passed_of held path policy (Ok x) loaded h = tt
 not_passed_of held path policy (Err fault) loaded h = not_passed held path policy fault loaded h
 
 -- What is needed is not handed in.
-pub wanted_unread : (held : Option Holdings) (path : List ℕ) (want : Want) (read : List (List ℕ))
+pub wanted_unread : (held : Holdings) (path : List ℕ) (want : Want) (read : List (List ℕ))
     (fault : PolicyFault) → EndsIn held path read (load_faults.Wanted want) → IsNotHanded held want fault → IsNoPolicy held path fault
 wanted_unread held path want read (faults.CannotRead unread why) ends not = inr (want, not.0, not.1, (read, ends))
 wanted_unread held path want read (faults.TooLong long) ends not = (not.1, inr (want, not.0, (read, ends)))
@@ -47,9 +47,9 @@ of_content (load_faults.Wanted want) wanted memory = wanted want refl
 of_content load_faults.Memory wanted memory = memory refl
 
 -- The content of what was read is refused.
-pub unloaded : (held : Option Holdings) (path text : List ℕ) (handed : List Supply) (read : List (List ℕ)) (fault : LoadFault)
+pub unloaded : (held : Holdings) (path text : List ℕ) (handed : List Supply) (read : List (List ℕ)) (fault : LoadFault)
     (faulty : Option (List ℕ)) → ((want : Want) → fault ≡ load_faults.Wanted want → ⊥) → (fault ≡ load_faults.Memory → ⊥)
-    → HoldsFile held path (Some text) → AreHeld held handed → IsLoad path text handed (Err (read, fault))
+    → held.is_file path (Some text) → AreHeld held handed → IsLoad path text handed (Err (read, fault))
     → faulty ≡ text_at_fault text handed read fault → IsNoPolicy held path (faults.Refused read fault faulty)
 unloaded held path text handed read fault faulty wanted memory main are load is =
     (of_content fault wanted memory, (text, handed, main, are, load, is))

@@ -1,4 +1,4 @@
--- The files and folders that exist, if they are specified.
+-- What reading the files and folders of a policy may give.
 use Rattle.std.specs.Prelude.{◌≡◌, ◌≢◌, ◌<◌, ⊤, ℕ, length, List, [], ◌∷◌, Option, None, Some, unwrap_or, Contains}
 use Rattle.sudo_load.specs.declared.supply.Supply.{Supply}
 use Rattle.sudo_load.specs.declared.supply.Supply.TheVariants as supplies
@@ -8,10 +8,18 @@ use Rattle.run_base.specs.declared.files.FilesFault.{FilesFault}
 use Rattle.run_base.specs.declared.files.FilesFault.TheVariants as faults
 use Rattle.run_base.specs.declared.obstacle.Obstacle.{Obstacle}
 
--- the files and folders that exist, and the paths at which reading fails, each with what keeps it from being read
-pub record Holdings : Type 0 where
-  pub supplies : List Supply
-  pub unreadable : List (List ℕ × Obstacle)
+-- what reading may give: the text of the file at a path, `None` if there is no file; the names of the files of the folder at a
+-- path, none if there is no folder; what keeps a path from being read; and that the file at a path is longer than a file of a
+-- policy may be
+pub record Holdings : Type 1 where
+  pub is_file : List ℕ → Option (List ℕ) → Type 0
+  pub is_folder : List ℕ → List (List ℕ) → Type 0
+  pub is_unreadable : List ℕ → Obstacle → Type 0
+  pub is_long : List ℕ → Type 0
+
+-- reading may give anything, as that of a disk
+abbrev pub any_holdings : Holdings
+any_holdings = record { is_file = λ _ _. ⊤; is_folder = λ _ _. ⊤; is_unreadable = λ _ _. ⊤; is_long = λ _. ⊤ }
 
 -- the text of the file at a path; `None` if there is no file
 abbrev pub file_at : List Supply → List ℕ → Option (List ℕ)
@@ -21,43 +29,35 @@ file_at held path = unwrap_or (supplied_file held path) None
 abbrev pub folder_at : List Supply → List ℕ → List (List ℕ)
 folder_at held path = unwrap_or (supplied_folder held path) []
 
--- this may be the file at a path; it is, if the files that exist are specified
-abbrev pub HoldsFile : Option Holdings → List ℕ → Option (List ℕ) → Type 0
-HoldsFile None path text = ⊤
-HoldsFile (Some held) path text = text ≡ file_at held.supplies path
+-- the file at a path is one of these, and too long
+abbrev pub IsLongAmong : List Supply → List ℕ → Type 0
+IsLongAmong held path = (text : List ℕ) × (file_at held path ≡ Some text) × (text_limit < length text)
 
--- these may be the names of the files of the folder at a path
-abbrev pub HoldsFolder : Option Holdings → List ℕ → List (List ℕ) → Type 0
-HoldsFolder None path names = ⊤
-HoldsFolder (Some held) path names = names ≡ folder_at held.supplies path
+-- reading gives these files and folders, and fails at these paths alone, for what stands beside each
+abbrev pub holdings_of : List Supply → List (List ℕ × Obstacle) → Holdings
+holdings_of held unreadable = record {
+  is_file = λ path text. text ≡ file_at held path;
+  is_folder = λ path names. names ≡ folder_at held path;
+  is_unreadable = λ path why. Contains unreadable (path, why);
+  is_long = IsLongAmong held;
+}
 
--- this may keep the file or the folder at a path from being read
-abbrev pub IsUnreadable : Option Holdings → List ℕ → Obstacle → Type 0
-IsUnreadable None path why = ⊤
-IsUnreadable (Some held) path why = Contains held.unreadable (path, why)
-
--- the file at a path may be longer than a file of a policy may be
-abbrev pub IsTooLong : Option Holdings → List ℕ → Type 0
-IsTooLong None path = ⊤
-IsTooLong (Some held) path = (text : List ℕ) × (file_at held.supplies path ≡ Some text) × (text_limit < length text)
-
--- why there is no text of the file at a path: reading it fails, it is too long, or memory failed
-abbrev pub IsFileFault : Option Holdings → List ℕ → FilesFault → Type 0
-IsFileFault None path fault = ⊤
-IsFileFault (Some held) path (faults.Failed why) = IsUnreadable (Some held) path why
-IsFileFault (Some held) path faults.TooLong = IsTooLong (Some held) path
-IsFileFault (Some held) path faults.Memory = ⊤
+-- why reading the file at a path gives no text: it fails, the file is too long, or memory failed
+abbrev pub IsFileFault : Holdings → List ℕ → FilesFault → Type 0
+IsFileFault held path (faults.Failed why) = held.is_unreadable path why
+IsFileFault held path faults.TooLong = held.is_long path
+IsFileFault held path faults.Memory = ⊤
 
 -- why there are no names of the folder at a path: reading it fails, or memory failed
-abbrev pub IsFolderFault : Option Holdings → List ℕ → FilesFault → Type 0
+abbrev pub IsFolderFault : Holdings → List ℕ → FilesFault → Type 0
 IsFolderFault held path fault = (fault ≢ faults.TooLong) × IsFileFault held path fault
 
 -- this supply may exist
-abbrev pub IsHeld : Option Holdings → Supply → Type 0
-IsHeld held (supplies.File path text) = HoldsFile held path text
-IsHeld held (supplies.Folder path names) = HoldsFolder held path names
+abbrev pub IsHeld : Holdings → Supply → Type 0
+IsHeld held (supplies.File path text) = held.is_file path text
+IsHeld held (supplies.Folder path names) = held.is_folder path names
 
 -- all these supplies may exist
-abbrev pub AreHeld : Option Holdings → List Supply → Type 0
+abbrev pub AreHeld : Holdings → List Supply → Type 0
 AreHeld held [] = ⊤
 AreHeld held (supply ∷ rest) = IsHeld held supply × AreHeld held rest

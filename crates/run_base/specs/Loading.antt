@@ -16,7 +16,7 @@ use Rattle.sudo_text.specs.declared.fault.TextFault.{TextFault}
 use Rattle.sudo_text.specs.declared.fault.TextFault.TheVariants as texts
 use Rattle.sudo_text.specs.declared.line.Place.{Place}
 use Rattle.run_base.specs.FindingLines.{finding_lines}
-use Rattle.run_base.specs.Holding.{AreHeld, HoldsFile, Holdings, IsTooLong, IsUnreadable, file_at}
+use Rattle.run_base.specs.Holding.{AreHeld, Holdings, file_at}
 use Rattle.run_base.specs.declared.fault.PolicyFault.{PolicyFault}
 use Rattle.run_base.specs.declared.fault.PolicyFault.TheVariants as faults
 use Rattle.run_base.specs.declared.obstacle.Obstacle.{Obstacle}
@@ -24,11 +24,11 @@ use Rattle.run_base.specs.declared.obstacle.Obstacle.TheVariants as obstacles
 
 -- the policy is that to which this text of the main file, and these texts and names of what is included, unfold; they are
 -- those of the files that exist, if these are specified
-abbrev pub IsLoadedFrom : Option Holdings → List ℕ → List ℕ → List Supply → Policy → Type 0
-IsLoadedFrom held path text handed policy = HoldsFile held path (Some text) × AreHeld held handed × IsLoad path text handed (Ok policy)
+abbrev pub IsLoadedFrom : Holdings → List ℕ → List ℕ → List Supply → Policy → Type 0
+IsLoadedFrom held path text handed policy = held.is_file path (Some text) × AreHeld held handed × IsLoad path text handed (Ok policy)
 
 -- the policy is that to which some text of the main file, and some texts and names of what is included, unfold
-abbrev pub IsLoaded : Option Holdings → List ℕ → Policy → Type 0
+abbrev pub IsLoaded : Holdings → List ℕ → Policy → Type 0
 IsLoaded held path policy = (text : List ℕ) × (handed : List Supply) × IsLoadedFrom held path text handed policy
 
 -- the content of the files is refused: no further file is needed, and allocation did not fail
@@ -42,9 +42,9 @@ IsOfContent load_faults.Memory = ⊥
 
 -- the text of the main file, and what was handed in of the files that exist, end in this fault;
 -- `read` are the paths of the files that were read until then
-abbrev pub EndsIn : Option Holdings → List ℕ → List (List ℕ) → LoadFault → Type 0
+abbrev pub EndsIn : Holdings → List ℕ → List (List ℕ) → LoadFault → Type 0
 EndsIn held path read fault =
-    (text : List ℕ) × (handed : List Supply) × HoldsFile held path (Some text) × AreHeld held handed
+    (text : List ℕ) × (handed : List Supply) × held.is_file path (Some text) × AreHeld held handed
     × IsLoad path text handed (Err (read, fault))
 
 -- the place of a fault of a text, if it is in a line
@@ -85,9 +85,9 @@ abbrev pub text_at_fault : List ℕ → List Supply → List (List ℕ) → Load
 text_at_fault main handed read fault = option_and_then (λ place. text_of_file main handed read place.file) (fault_place fault)
 
 -- the files unfold to no policy, for this reason, which is their content; `faulty` is the text of the file in which it is
-abbrev pub IsUnloaded : Option Holdings → List ℕ → List (List ℕ) → LoadFault → Option (List ℕ) → Type 0
+abbrev pub IsUnloaded : Holdings → List ℕ → List (List ℕ) → LoadFault → Option (List ℕ) → Type 0
 IsUnloaded held path read fault faulty =
-    IsOfContent fault × ((text : List ℕ) × (handed : List Supply) × HoldsFile held path (Some text) × AreHeld held handed
+    IsOfContent fault × ((text : List ℕ) × (handed : List Supply) × held.is_file path (Some text) × AreHeld held handed
     × IsLoad path text handed (Err (read, fault)) × (faulty ≡ text_at_fault text handed read fault))
 
 -- the path of a file or a folder that is needed
@@ -96,24 +96,24 @@ path_of (wants.File path) = path
 path_of (wants.Folder path) = path
 
 -- the path is needed after what was handed in, and this keeps it from being read
-abbrev pub IsUnreadWant : Option Holdings → List ℕ → List ℕ → Obstacle → Type 0
+abbrev pub IsUnreadWant : Holdings → List ℕ → List ℕ → Obstacle → Type 0
 IsUnreadWant held path unread why =
-    (want : Want) × (unread ≡ path_of want) × IsUnreadable held unread why
+    (want : Want) × (unread ≡ path_of want) × held.is_unreadable unread why
     × ((read : List (List ℕ)) × EndsIn held path read (load_faults.Wanted want))
 
 -- this keeps the main file from being read, or it does not exist
-abbrev pub IsUnreadMain : Option Holdings → List ℕ → List ℕ → Obstacle → Type 0
+abbrev pub IsUnreadMain : Holdings → List ℕ → List ℕ → Obstacle → Type 0
 IsUnreadMain held path unread why =
-    (unread ≡ path) × (IsUnreadable held path why ⊎ (HoldsFile held path None × (why ≡ obstacles.NotFound)))
+    (unread ≡ path) × (held.is_unreadable path why ⊎ (held.is_file path None × (why ≡ obstacles.NotFound)))
 
 -- the path cannot be read, for this reason: it is that of the main file, or it is needed after what was read
-abbrev pub IsUnreadPath : Option Holdings → List ℕ → List ℕ → Obstacle → Type 0
+abbrev pub IsUnreadPath : Holdings → List ℕ → List ℕ → Obstacle → Type 0
 IsUnreadPath held path unread why = IsUnreadMain held path unread why ⊎ IsUnreadWant held path unread why
 
 -- the file at a path is too long: it is the main file, or it is needed after what was handed in
-abbrev pub IsLongPath : Option Holdings → List ℕ → List ℕ → Type 0
+abbrev pub IsLongPath : Holdings → List ℕ → List ℕ → Type 0
 IsLongPath held path long =
-    IsTooLong held long × ((long ≡ path) ⊎ ((want : Want) × (long ≡ path_of want)
+    held.is_long long × ((long ≡ path) ⊎ ((want : Want) × (long ≡ path_of want)
     × ((read : List (List ℕ)) × EndsIn held path read (load_faults.Wanted want))))
 
 -- the most files and folders that are handed in
@@ -121,12 +121,12 @@ abbrev pub most_supplies : ℕ
 most_supplies = 2048
 
 -- as many files and folders exist as are handed in at most
-abbrev pub AreTooMany : Option Holdings → Type 0
+abbrev pub AreTooMany : Holdings → Type 0
 AreTooMany held = (handed : List Supply) × AreHeld held handed × (most_supplies ≤ length handed)
 
 -- why there is no policy: a path cannot be read, a file is too long, too many files are needed, memory failed, or the
 -- content of the files is refused
-abbrev pub IsNoPolicy : Option Holdings → List ℕ → PolicyFault → Type 0
+abbrev pub IsNoPolicy : Holdings → List ℕ → PolicyFault → Type 0
 IsNoPolicy held path (faults.Refused files fault text) = IsUnloaded held path files fault text
 IsNoPolicy held path (faults.CannotRead unread why) = IsUnreadPath held path unread why
 IsNoPolicy held path (faults.TooLong long) = IsLongPath held path long
@@ -135,12 +135,12 @@ IsNoPolicy held path faults.Memory = ⊤
 IsNoPolicy held path (faults.Errors lines) = ⊥
 
 -- the policy is that to which the file at a path unfolds, and it passes the check
-pub record IsChecked (held : Option Holdings) (path : List ℕ) (policy : Policy) : Type 0 where
+pub record IsChecked (held : Holdings) (path : List ℕ) (policy : Policy) : Type 0 where
   pub loaded : IsLoaded held path policy
   pub passes : Passes policy
 
 -- the policy at a path, with all that it includes, has no error
-abbrev pub PassesCheck : Option Holdings → List ℕ → Type 0
+abbrev pub PassesCheck : Holdings → List ℕ → Type 0
 PassesCheck held path = (policy : Policy) × IsChecked held path policy
 
 -- these are the lines of the errors that the check finds in a policy, of at least one error
@@ -148,11 +148,11 @@ abbrev pub AreErrorsOf : Policy → List ℕ → Type 0
 AreErrorsOf policy lines = (found : List Finding) × FailsCheck policy found × (lines ≡ finding_lines policy.files true found)
 
 -- these are the lines of the errors of the policy that the file at a path unfolds to
-abbrev pub AreErrors : Option Holdings → List ℕ → List ℕ → Type 0
+abbrev pub AreErrors : Holdings → List ℕ → List ℕ → Type 0
 AreErrors held path lines = (policy : Policy) × IsLoaded held path policy × AreErrorsOf policy lines
 
 -- why no policy passes the check: there is no policy, or it has errors
-abbrev pub IsNotChecked : Option Holdings → List ℕ → PolicyFault → Type 0
+abbrev pub IsNotChecked : Holdings → List ℕ → PolicyFault → Type 0
 IsNotChecked held path (faults.Refused files fault text) = IsNoPolicy held path (faults.Refused files fault text)
 IsNotChecked held path (faults.CannotRead unread why) = IsNoPolicy held path (faults.CannotRead unread why)
 IsNotChecked held path (faults.TooLong long) = IsNoPolicy held path (faults.TooLong long)

@@ -1,6 +1,6 @@
 //! The files and folders of a policy.
-ghost use Rattle.std.specs.Prelude.{◌≡◌, ◌≢◌, Option, None, IfErr, IfOk};
-ghost use Rattle.run_base.specs.Holding.{Holdings, HoldsFile, HoldsFolder, IsFileFault, IsFolderFault};
+ghost use Rattle.std.specs.Prelude.{◌≡◌, ◌≢◌, IfErr, IfOk};
+ghost use Rattle.run_base.specs.Holding.{any_holdings, Holdings, IsFileFault, IsFolderFault};
 
 use crate::obstacle::Obstacle;
 use audit_files::{Device, ReadFault, read_whole};
@@ -39,23 +39,22 @@ impl From<AllocError> for FilesFault {
 
 /// Files and folders from which a policy is read.
 pub trait Files {
-    // The files and folders that exist, and the paths at which reading fails, if the value
-    // specifies them.
-    ghost held: { Self → Option Holdings };
+    // What reading may give.
+    ghost held: { Self → Holdings };
 
     /// Returns the text of a file, or `None` if there is no such file. Returns `TooLong` if it is longer than a file of a
     /// policy may be, `Failed` if reading failed, and `Memory` if allocation failed.
     fn file(&mut self, alloc: Global, path: &[u8]) -> Result<Option<Seq<u8>>, FilesFault>
-        ensures text { IfOk result (λ text. HoldsFile (held self.old) path.now text) }
+        ensures text { IfOk result (λ text. (held self.old).is_file path.now text) }
         ensures fault { IfErr result (IsFileFault (held self.old) path.now) }
-        ensures same { held self.new ≡ held self.old };
+        ensures same { self.new ≡ self.old };
 
     /// Returns the text of the main file, as `file` does. The main file may be a pipe or another device, also where
     /// `file` reads regular files alone.
     fn main_file(&mut self, alloc: Global, path: &[u8]) -> Result<Option<Seq<u8>>, FilesFault>
-        ensures text { IfOk result (λ text. HoldsFile (held self.old) path.now text) }
+        ensures text { IfOk result (λ text. (held self.old).is_file path.now text) }
         ensures fault { IfErr result (IsFileFault (held self.old) path.now) }
-        ensures same { held self.new ≡ held self.old }
+        ensures same { self.new ≡ self.old }
     {
         self.file(alloc, path)
     }
@@ -64,9 +63,9 @@ pub trait Files {
     /// cannot be read: reading such a file then fails by its own path. Returns `Failed` if reading the folder failed or a
     /// name is not text, and `Memory` if allocation failed.
     fn folder(&mut self, alloc: Global, path: &[u8]) -> Result<Seq<Seq<u8>>, FilesFault>
-        ensures names { IfOk result (λ names. HoldsFolder (held self.old) path.now names) }
+        ensures names { IfOk result (λ names. (held self.old).is_folder path.now names) }
         ensures fault { IfErr result (IsFolderFault (held self.old) path.now) }
-        ensures same { held self.new ≡ held self.old };
+        ensures same { self.new ≡ self.old };
 }
 
 /// The files of this machine.
@@ -117,7 +116,7 @@ fn is_listed(rt: &HostRuntime, path: Path<'_>) -> bool {
 }
 
 impl Files for Disk<'_> {
-    ghost held = { λ _. None };
+    ghost held = { λ _. any_holdings };
 
     fn file(&mut self, alloc: Global, path: &[u8]) -> Result<Option<Seq<u8>>, FilesFault> {
         let Ok(path) = str::from_utf8(path) else {

@@ -3,7 +3,7 @@ ghost use Rattle.std.specs.Prelude.{◌≡◌, ◌<◌, ◌⊎◌, Some, IfErr, 
 ghost use Rattle.sudo_policy.specs.Checking.{Passes};
 ghost use Rattle.audit_files.specs.Places as places;
 ghost use Rattle.sudo_load.specs.Supplies.{file_in};
-ghost use Rattle.run_base.specs.Holding.{AreHeld, HoldsFile, IsFileFault, IsHeld, file_at};
+ghost use Rattle.run_base.specs.Holding.{AreHeld, IsFileFault, IsHeld, file_at};
 ghost use Rattle.run_base.specs.Loading.{IsChecked, IsLoaded, IsLoadedFrom, IsNoPolicy, IsNotChecked, fault_place};
 ghost use Rattle.run_base.specs.Loading.{path_of, text_at_fault, text_of_file as spec_text_of_file};
 ghost use Rattle.run_base.specs.Body.Loading.{IsNotCheckedOf, IsNotHanded, IsUnfetched};
@@ -43,8 +43,8 @@ fn long_main(alloc: Global, path: &[u8]) -> PolicyFault
 
 // Returns the text of the main file, which must exist.
 fn main_text<F: Files>(alloc: Global, files: &mut F, path: &[u8]) -> Result<Seq<u8>, PolicyFault>
-    ensures held { IfOk result (λ text. HoldsFile (F.held files.old) path.now (Some text)) }
-    ensures same { F.held files.new ≡ F.held files.old }
+    ensures held { IfOk result (λ text. (F.held files.old).is_file path.now (Some text)) }
+    ensures same { files.new ≡ files.old }
     ensures fault { IfErr result (IsNoPolicy (F.held files.old) path.now) }
 {
     match files.main_file(alloc, path) {
@@ -63,7 +63,7 @@ fn fetch<F: Files>(
     want: Want,
 ) -> Result<Supply, (Seq<u8>, FilesFault)>
     ensures held { IfOk result (IsHeld (F.held files.old)) }
-    ensures same { F.held files.new ≡ F.held files.old }
+    ensures same { files.new ≡ files.old }
     ensures fault { IfErr result (λ e. IsFileFault (F.held files.old) e.0 e.1) }
     ensures path { IfErr result (λ e. e.0 ≡ path_of want) }
 {
@@ -135,7 +135,7 @@ fn read_one<F: Files>(
 ) -> Result<(), AllocError>
     requires { AreHeld (F.held files.old) supplies.old.items }
     ensures held { AreHeld (F.held files.new) supplies.new.items }
-    ensures same { F.held files.new ≡ F.held files.old }
+    ensures same { files.new ≡ files.old }
 {
     match fetch(alloc, files, want) {
         Ok(supply) => {
@@ -152,7 +152,7 @@ fn read_one<F: Files>(
 // allocation fails, so that `load` has as much memory as without it.
 fn read_ahead<F: Files>(alloc: Global, files: &mut F, path: &[u8], text: &[u8]) -> Vec<Supply>
     ensures held { AreHeld (F.held files.new) result.items }
-    ensures same { F.held files.new ≡ F.held files.old }
+    ensures same { files.new ≡ files.old }
 {
     let mut supplies = Vec::new(alloc);
     let Ok(mut pending) = included(alloc, path, text) else {
@@ -193,7 +193,7 @@ fn push_wanted<F: Files>(
     requires { AreHeld (F.held files.old) supplies.old.items }
     ensures held { OnOk result (AreHeld (F.held files.new) supplies.new.items) }
     ensures more { OnOk result (vec_len supplies.old < vec_len supplies.new) }
-    ensures same { F.held files.new ≡ F.held files.old }
+    ensures same { files.new ≡ files.old }
     ensures fault { IfErr result (IsNotHanded (F.held files.old) want) }
 {
     match fetch(alloc, files, want) {
@@ -214,7 +214,7 @@ fn hand_in<F: Files>(
     requires { AreHeld (F.held files.old) supplies.old.items }
     ensures held { OnOk result (AreHeld (F.held files.new) supplies.new.items) }
     ensures more { OnOk result (vec_len supplies.old < vec_len supplies.new) }
-    ensures same { F.held files.new ≡ F.held files.old }
+    ensures same { files.new ≡ files.old }
     ensures fault { IfErr result (IsNotHanded (F.held files.old) want) }
 {
     if supplies.is_empty() {

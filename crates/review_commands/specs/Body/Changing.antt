@@ -6,6 +6,10 @@ use Rattle.audit_files.specs.Feeding.{Ahead}
 use Rattle.sudo_grammar.specs.declared.policy.Policy.{Policy}
 use Rattle.sudo_match.specs.KnownRows.{KnownRows}
 use Rattle.review_commands.specs.Changes.{change_workers, changes_status, changes_text}
+use Rattle.audit_commands.specs.declared.fault.ReportFault.{ReportFault}
+use Rattle.audit_commands.specs.declared.fault.ReportFault.TheVariants as reports
+use Rattle.review_commands.specs.declared.fault.TableFault.{TableFault}
+use Rattle.review_commands.specs.declared.fault.TableFault.TheVariants as tables
 
 -- the table of the requests of these sources, and its status
 pub record AreJudged (old new : Policy) (d : KnownRows) (sources : List (List ℕ)) (readable_bytes : List (Option Ahead))
@@ -14,3 +18,11 @@ pub record AreJudged (old new : Policy) (d : KnownRows) (sources : List (List �
   pub answers : Answers old d sources readable_bytes change_workers (Ok report)
   pub text_is : text ≡ changes_text old new d report
   pub status_is : status ≡ changes_status new d report
+
+-- the fault of an audit for that of a pair of policies
+abbrev pub IsFaultOfPair : TableFault → ReportFault → Type 0
+IsFaultOfPair (tables.Policy fault) result = result ≡ reports.Policy fault
+IsFaultOfPair (tables.Directory fault) result = result ≡ reports.Directory fault
+IsFaultOfPair (tables.NoSuchUser name) result = result ≡ reports.Memory
+IsFaultOfPair (tables.NoSuchHost name) result = result ≡ reports.Memory
+IsFaultOfPair tables.Memory result = result ≡ reports.Memory

@@ -16,7 +16,7 @@ use Rattle.review_commands.specs.declared.fault.TableFault.TheVariants as tables
 use Rattle.review_commands.specs.declared.pair.Pair.{Pair}
 
 -- why a policy does not pass: it is refused or has errors, or memory failed
-abbrev pub IsNotPassing : Option Holdings → List ℕ → TableFault → Type 0
+abbrev pub IsNotPassing : Holdings → List ℕ → TableFault → Type 0
 IsNotPassing held path (tables.Policy fault) = (fault ≢ policies.Memory) × IsNotChecked held path fault
 IsNotPassing held path tables.Memory = ⊤
 IsNotPassing held path (tables.Directory fault) = ⊥

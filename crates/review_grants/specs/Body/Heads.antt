@@ -18,6 +18,7 @@ use Rattle.sudo_policy.specs.Written.{written_form}
 use Rattle.sudo_text.specs.declared.line.Place.{Place}
 use Rattle.sudo_verdict.specs.Grants.{Grant}
 use Rattle.sudo_verdict.specs.Tagged.{runas_at, runas_before, tags_at, tags_before}
+use Rattle.review_texts.specs.Masks.{as_written}
 use Rattle.review_grants.specs.declared.in_force.InForce.{InForce as TheState}
 use Rattle.review_grants.specs.declared.names.Names.{Names as TheNames}
 use Rattle.review_grants.specs.GrantRows.{grant_fields, hosts_text, is_asked_about, is_for_host, runas_text, sign_text, users_text}
@@ -34,7 +35,7 @@ pub record AreNames (d : KnownRows) (names : TheNames) : Type 0 where
 -- the record of a written-out command behind the fields of its lists and of its runas
 abbrev pub command_row : List ℕ → List ℕ → Signed → List ℕ
 command_row head tags s =
-    head ++ (fields_text default_writer (sign_text s.negated ∷ atom_text s.atom ∷ tags ∷ [] ∷ []) ++ 10 ∷ [])
+    head ++ (fields_text default_writer (sign_text s.negated ∷ as_written (atom_text s.atom) ∷ tags ∷ [] ∷ []) ++ 10 ∷ [])
 
 -- the records of a command, written out
 abbrev pub command_rows : Policy → List ℕ → List ℕ → CommandSpec → List ℕ

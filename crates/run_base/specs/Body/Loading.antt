@@ -1,8 +1,8 @@
 -- The policy of a run. Only proofs of bodies use these.
-use Rattle.std.specs.Prelude.{◌≡◌, ⊤, ℕ, List, Option}
+use Rattle.std.specs.Prelude.{◌≡◌, ⊤, ℕ, List}
 use Rattle.sudo_grammar.specs.declared.policy.Policy.{Policy}
 use Rattle.sudo_load.specs.declared.fault.Want.{Want}
-use Rattle.run_base.specs.Holding.{Holdings, IsTooLong, IsUnreadable}
+use Rattle.run_base.specs.Holding.{Holdings}
 use Rattle.run_base.specs.declared.files.FilesFault.{FilesFault}
 use Rattle.run_base.specs.declared.files.FilesFault.TheVariants as files
 use Rattle.run_base.specs.declared.fault.PolicyFault.{PolicyFault}
@@ -25,9 +25,9 @@ IsUnfetched path files.TooLong fault = fault ≡ faults.TooLong path
 IsUnfetched path files.Memory fault = fault ≡ faults.Memory
 
 -- why what is needed is not handed in: memory failed, reading it fails, or it is too long
-abbrev pub IsNotHanded : Option Holdings → Want → PolicyFault → Type 0
-IsNotHanded held want (faults.CannotRead unread why) = (unread ≡ path_of want) × IsUnreadable held unread why
-IsNotHanded held want (faults.TooLong long) = (long ≡ path_of want) × IsTooLong held long
+abbrev pub IsNotHanded : Holdings → Want → PolicyFault → Type 0
+IsNotHanded held want (faults.CannotRead unread why) = (unread ≡ path_of want) × held.is_unreadable unread why
+IsNotHanded held want (faults.TooLong long) = (long ≡ path_of want) × held.is_long long
 IsNotHanded held want faults.Memory = ⊤
 IsNotHanded held want (faults.Refused files fault text) = ⊥
 IsNotHanded held want (faults.Errors lines) = ⊥

@@ -1,7 +1,7 @@
 use Rattle.run_base.specs.Endings.{writer_states as sent}
 use Rattle.run_base.specs.Loading.{IsNoPolicy}
 use Rattle.run_base.proofs.EndingLemmas.{run_ends}
-use Rattle.review_commands.specs.CautionLines.{cautions_notices}
+use Rattle.review_commands.specs.CautionLines.{policy_notices}
 use Rattle.review_commands.specs.Reviewing.{IsCautioned}
 use Rattle.review_commands.proofs.cautions.cautions_run.Goals as goal
 
@@ -11,7 +11,7 @@ returns g c =
     let out = sent g.O.Sink.taken g.O.Sink.stalled_writes c.args.out.now c.end_explained.new.out in
     let err = sent g.E.Sink.taken g.E.Sink.stalled_writes c.args.err.now c.end_explained.new.err in
     record {
-      ends = run_ends cautions_notices (IsCautioned held c.args.path.now c.args.links.now c.args.without.now)
+      ends = run_ends policy_notices (IsCautioned held c.args.path.now c.args.links.now c.args.without.now)
           (IsNoPolicy held c.args.path.now)
           c.cautions_output-ended.result c.end_explained.result out err
           c.cautions_output-ended.ensures.printed c.cautions_output-ended.ensures.fault c.end_explained.ensures;

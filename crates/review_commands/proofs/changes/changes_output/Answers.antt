@@ -1,7 +1,7 @@
 use Rattle.std.proofs.Common.{map}
 use Rattle.review_commands.specs.Changes.{ChangeInputs, change_inputs}
 use Rattle.review_commands.specs.Comparing.{PairInputs, pair_by}
-use Rattle.review_commands.proofs.ChangeSteps.{changes-of, no-changes-of}
+use Rattle.review_commands.proofs.ChangeSteps.{changes-of, no-changes-of, unpaired-of}
 use Rattle.review_commands.proofs.changes.changes_output.Goals as goal
 
 pub returns-in-Ok : goal.returns-in-Ok
@@ -24,4 +24,4 @@ returns-in-Err-clause-fault g c =
     (g.G.Files.held c.args.new_files.now) c.args.new_path.now (g.U.Feed.ahead c.args.users.now) (g.H.Feed.ahead c.args.hosts.now) in
     let given : ChangeInputs = change_inputs pair (map (λ s. s.name) c.args.sources.items)
     (map (λ s. g.R.Feed.ahead s.reader) c.args.sources.items) in
-    c.unpaired.ensures given c.in-Err.ensures.fault
+    unpaired-of given c.in-Err.fault c.unpaired.result c.unpaired.ensures c.in-Err.ensures.fault

@@ -11,8 +11,9 @@ pub returns-in-Err-hand_in-clause-fault : goal.returns-in-Err-hand_in-clause-fau
 returns-in-Err-hand_in-clause-fault g c =
     let held = g.F.Files.held c.args.files.now in
     let ends : EndsIn held c.args.path.now c.in-Err.read (load_faults.Wanted c.in-Wanted.want) = search rules in
-    wanted_unread held c.args.path.now c.in-Wanted.want c.in-Err.read c.in-Err-hand_in.fault ends
-    (subst (λ h. IsNotHanded h c.in-Wanted.want c.in-Err-hand_in.fault) c.loop-call.invariant.same c.in-Err-hand_in.ensures.fault)
+    let fault = c.in-Err-hand_in.fault in
+    wanted_unread held c.args.path.now c.in-Wanted.want c.in-Err.read fault ends
+    (subst (λ files. IsNotHanded (g.F.Files.held files) c.in-Wanted.want fault) c.loop-call.invariant.same c.in-Err-hand_in.ensures.fault)
 
 pub returns-in_default-clause-fault : goal.returns-in_default-clause-fault
 returns-in_default-clause-fault g c =
@@ -26,4 +27,4 @@ returns-in_default-clause-fault g c =
     let faulty : c.faulty_text-text.result ≡ text_at_fault c.loop-call.text handed c.in-Err.read c.in-Err.fault = search rules in
     unloaded held c.args.path.now c.loop-call.text handed c.in-Err.read c.in-Err.fault c.faulty_text-text.result
     c.in_default.not-Wanted c.in_default.not-Memory c.loop-call.invariant.main
-    (subst (λ h. AreHeld h handed) c.loop-call.invariant.same c.loop-call.invariant.held) load faulty
+    (subst (λ files. AreHeld (g.F.Files.held files) handed) c.loop-call.invariant.same c.loop-call.invariant.held) load faulty

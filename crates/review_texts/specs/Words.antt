@@ -1,0 +1,16 @@
+-- The words without which nothing of a text is written otherwise: the names of options, `list`, and the word of a Defaults
+-- line with a backslash.
+use Rattle.std.specs.Prelude.{ℕ, Bool, false, ◌||◌, nat_eq, List, [], ◌∷◌, codes}
+use Rattle.std.specs.List.{list_any, starts_with}
+
+abbrev pub words : List (List ℕ)
+words = codes "list" ∷ codes "CWD" ∷ codes "TIMEOUT" ∷ codes "ROLE" ∷ codes "TYPE" ∷ codes "Defaults\\" ∷ []
+
+-- one of the words begins a text
+abbrev pub begins_word : List ℕ → Bool
+begins_word text = list_any (starts_with nat_eq text) words
+
+-- one of the words stands in a text
+abbrev pub has_word : List ℕ → Bool
+has_word [] = false
+has_word (b ∷ bs) = begins_word (b ∷ bs) || has_word bs

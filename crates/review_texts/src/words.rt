@@ -1,0 +1,55 @@
+//! The words without which nothing of a text is written otherwise.
+ghost use Rattle.std.specs.Prelude.{◌≡◌, ◌∷◌, slice_index};
+ghost use Rattle.review_texts.specs.Body.Beginnings as beginnings;
+ghost use Rattle.review_texts.specs.Words as spec;
+
+use crate::bytes::peek;
+
+// Whether one of the words begins with a byte and the first of those that follow it.
+fn begin_word(first: u8, rest: &[u8]) -> bool
+    ensures { result ≡ beginnings.begin_word first (slice_index rest.now 0) }
+{
+    match first {
+        b'l' => peek(rest, 0) == b'i',
+        b'C' => peek(rest, 0) == b'W',
+        b'T' => peek(rest, 0) == b'I' || peek(rest, 0) == b'Y',
+        b'R' => peek(rest, 0) == b'O',
+        b'D' => peek(rest, 0) == b'e',
+        _ => false,
+    }
+}
+
+// Whether one of the words begins a text.
+fn begins_word(text: &[u8]) -> bool
+    ensures { result ≡ spec.begins_word text.now }
+{
+    text.starts_with(b"list")
+        || text.starts_with(b"CWD")
+        || text.starts_with(b"TIMEOUT")
+        || text.starts_with(b"ROLE")
+        || text.starts_with(b"TYPE")
+        || text.starts_with(b"Defaults\\")
+}
+
+// Whether one of the words begins a text, of which these are the first byte and what follows.
+#[tactic(auto, using(crate::proofs::Beginnings::no_word_at))]
+fn begins_at(first: u8, rest: &[u8], text: &[u8]) -> bool
+    requires { text.now ≡ first ∷ rest.now }
+    ensures { result ≡ spec.begins_word text.now }
+{
+    begin_word(first, rest) && begins_word(text)
+}
+
+/// Whether one of the words stands in a text.
+pub(crate) fn has_word(text: &[u8]) -> bool
+    ensures { result ≡ spec.has_word text.now }
+{
+    let mut left = text;
+    while let Some((first, rest)) = left.split_first() {
+        if begins_at(*first, rest, left) {
+            return true;
+        }
+        left = rest;
+    }
+    false
+}
