@@ -125,6 +125,19 @@ class Asker:
         body = list(csv.reader(done.stdout.decode(ENCODING).splitlines()))[1:]
         return [Answer(verdict, place, tags) for _, _, verdict, place, tags in body]
 
+    def report(self, review: str, requests: list[Request]) -> list[Answer] | None:
+        """Returns the answers of sudo_review under the policy that was written, `None` if it refuses the policy."""
+        world.write_requests(self.folder, requests)
+        words = [review, "report", POLICY, "--users", world.USERS, "--hosts", world.HOSTS, "--workers", "1"]
+        done = self._run([*words, f"{SENDER}={world.REQUESTS}"], b"", {})
+        if done.returncode == 1:
+            return None
+        if done.returncode != 0:
+            raise _wrong(review, done, self._text())
+        rows = csv.DictReader(done.stdout.decode(ENCODING).splitlines())
+        # The standard error is read with the report: the line of the cautions has no verdict.
+        return [Answer(row["verdict"], row["place"], row["tags"]) for row in rows if row["verdict"] is not None]
+
     def peer_verdict(self, case: Case, asked: Request) -> Answer | None:
         """Returns the peer's answer to a request, `None` if it does not read the whole policy."""
         said = self.peer_answer(case, asked)

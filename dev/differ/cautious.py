@@ -6,6 +6,7 @@ nothing differs.
 
 import itertools
 import os
+import random
 import tempfile
 from collections import Counter
 from collections.abc import Iterator, Sequence
@@ -20,6 +21,7 @@ from differ.ask import Answer, Asker, Case
 from differ.assumed import unmet
 from differ.classes import WAYS
 from differ.draw import Draw, drawn_policy
+from differ.forms import with_forms
 from differ.peer import Peer
 from differ.review import Caution, Reviewer
 from differ.search import REFUSED, REQUESTS_A_POLICY, Both, Difference, Search, alike, memory
@@ -131,14 +133,16 @@ class Measure:
             return Both(REFUSED, REFUSED)
         return Both(alike(here[0]), alike(self.asker.peer_answer(case, case.request).answer))
 
-    def plain(self, seed: str) -> Plain:
-        """Compares verdicts under a policy if it has no cautions."""
+    def plain(self, seed: str, forms: bool = False) -> Plain:
+        """Compares verdicts under a policy, with forms that sudo_review alone reads or without, if it has no cautions."""
         case, requests = drawn_policy(seed, REQUESTS_A_POLICY)
+        if forms:
+            case = case._replace(text=with_forms(case.text, random.Random(seed)))
         self.asker.write(case)
         cautions = self.reviewer.cautions()
         if cautions != ():
             return Plain(policies=0 if cautions is None else 1)
-        here = self.asker.audit(requests) or ()
+        here = (self.asker.report(self.reviewer.program, requests) if forms else self.asker.audit(requests)) or ()
         verdicts: Counter[str] = Counter()
         differing: Counter[str] = Counter()
         found: list[tuple[str, Difference]] = []
@@ -151,7 +155,7 @@ class Measure:
             verdicts[name] += 1
             if both.differ():
                 differing[name] += 1
-                found += [] if name else [self._unnamed(seed, told, both)]
+                found += [] if name else [("", Difference(seed, told, both)) if forms else self._unnamed(seed, told, both)]
         return Plain(1, 1, 0, verdicts, differing, tuple(found))
 
     def _unnamed(self, seed: str, case: Case, both: Both) -> tuple[str, Difference]:
@@ -295,12 +299,12 @@ def _spread(numbers: Sequence[int], most: int) -> list[int]:
     return list(numbers[::step])
 
 
-def _plain(programs: Programs, verdicts: int, seed: str) -> Plain:
+def _plain(programs: Programs, verdicts: int, forms: bool, seed: str) -> Plain:
     """Compares at least so many verdicts under policies without cautions."""
     with tempfile.TemporaryDirectory(prefix="differential-", dir=memory()) as folder:
         measure, total = Measure(programs, folder), Plain()
         for number in itertools.count():
-            total = total.plus(measure.plain(f"{seed}.{number}"))
+            total = total.plus(measure.plain(f"{seed}.{number}", forms))
             if total.verdicts[""] >= verdicts:
                 break
         return total
@@ -346,11 +350,11 @@ def _aimed(programs: Programs, policies: int, seed: str, name: str) -> Single:
     return total
 
 
-def plain(pool: ProcessPoolExecutor, programs: Programs, verdicts: int, seed: int) -> Iterator[Plain]:
+def plain(pool: ProcessPoolExecutor, programs: Programs, verdicts: int, seed: int, forms: bool = False) -> Iterator[Plain]:
     """Yields what is found of policies without cautions, for at least so many verdicts."""
     each = min(verdicts, VERDICTS_A_TASK)
     seeds = [f"{seed}.v{number}" for number in range(-(-verdicts // max(1, each)))]
-    yield from pool.map(partial(_plain, programs, each), seeds)
+    yield from pool.map(partial(_plain, programs, each, forms), seeds)
 
 
 def sampled(pool: ProcessPoolExecutor, programs: Programs, policies: int, seed: int) -> Iterator[Sampled]:

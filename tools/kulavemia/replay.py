@@ -242,7 +242,7 @@ class Replay:
                 warn(warning)
         self._write_copies()
         policy, old = self.found.policy.prepared, self.found.old_policy
-        found = program.check(self.program, policy.file(), policy.root)
+        found = program.check(self.second, policy.file(), policy.root)
         self.say(f"check: {len(found.splitlines()) - 1} warnings")
         if self.found.logs:
             self._read_logs()

@@ -260,6 +260,7 @@ class Completions(unittest.TestCase):
                 self.assertEqual(self.proposed(program, command, "p", "-"), options)
                 self.assertEqual(self.proposed(program, command, "p", "--workers", "16"), ["16"])
                 self.assertEqual(self.proposed(program, command, "p", "s=di"), ["a file for di"])
+        self.assertEqual(self.proposed("sudo_review", "check", "-"), ["--root", "--help"])
         self.assertEqual(self.proposed("sudo_review", "cautions", "-"), ["--root", "--links", "--without", "--help"])
         self.assertEqual(self.proposed("sudo_review", "cautions", "--without", ""), list(read_table("cautions")["classes"]))
         options = ["--root", "--users", "--hosts", "--user", "--host", "--help"]

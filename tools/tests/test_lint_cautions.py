@@ -51,6 +51,13 @@ class Cautions(Case):
         self.write("p", "Ann ALL =\n")
         self.assertNotIn("caution", self.lint("p", status=1))
 
+    def test_what_the_second_program_alone_reads(self) -> None:
+        self.write("p", "ann ALL = CWD=/srv /opt/x, A\nCmnd_Alias A = list\nUser_Alias B = ann\n")
+        self.assertEqual(self.lint("p"), "p:3: warning: unused User_Alias B\n    3 | User_Alias B = ann\np: ok\n")
+        self.assertIn("p:1: error: unsupported option", self.lint("--no-cautions", "p", status=1))
+        self.write("p", "ann ALL = CWD=/srv CHROOT=/srv /opt/x\n")
+        self.assertIn("p:1: error: unsupported option", self.lint("p", status=1))
+
     def test_formats(self) -> None:
         found = json.loads(self.lint("--format", "json", "p"))["files"][0]
         self.assertEqual((found["status"], found["ok"]), (0, True))

@@ -64,7 +64,11 @@ CHANGES = f"{COMPARE} --requests s=requests"
 STEPS = "%adm ALL = (ALL) ALL\noperator ALL = (: adm) ALL\nbob ALL = (operator) /opt/sh\n"
 MANY = "Defaults targetpw\nAlice ALL = /bin/ls [^-]*\\\n-l, /bin/cat a\\ \n #include \\i\n"
 MANY += '"al\\ice" web\\*, "web?", 0.0.0.0/0 = (:adm) SETENV: /opt/sudoedit, /opt/x [[.a.]], ALL\n'
+MASKS = "alice ALL = (bob) CWD=/srv NOPASSWD: /opt/a, \\\n  list\nDefaults\\\n    insults\n"
 OF_REVIEW = {
+    "a check": (CYCLES, "check p", 1),
+    "a check of masked lines": (MASKS, "check p", 0),
+    "grants of masked lines": (MASKS, GRANTS, 0),
     "no caution": (TAGS.replace("bin", "opt"), "cautions p", 0),
     "cautions of many classes": (MANY, "cautions p", 5),
     "a fault before cautions": (MANY + "alice ALL = ALL,\n", "cautions p", 1),

@@ -220,7 +220,7 @@ class Replay(Case):
         self.write("tree/etc/sudoers", "@include /etc/more\n")
         self.write("tree/etc/more", "a b c\n")
         err = self.replay("--tree", "tree", "--directory", EXAMPLES, status=5)[1]
-        self.assertIn("replay: sudo_audit: /etc/more:1:5: syntax error", err)
+        self.assertIn("replay: sudo_review: /etc/more:1:5: syntax error", err)
 
     @needs_schema
     def test_what_the_page_rests_on(self) -> None:

@@ -38,6 +38,9 @@ class Tables(TableCase):
     def test_table_grants(self) -> None:
         self.check_table("grants")
 
+    def test_table_masks(self) -> None:
+        self.check_table("masks")
+
     def test_table_report(self) -> None:
         self.check_table("report")
 

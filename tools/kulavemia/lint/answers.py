@@ -154,6 +154,15 @@ def check(program: str, path: str) -> Report:
     return report_of(word, done.returncode, os.fsdecode(done.stdout), os.fsdecode(done.stderr))
 
 
+def check_by_both(program: str, review: str, path: str) -> Report:
+    """Returns the report of `check` on a file: of the second program, if it is there and reads what the first one refuses."""
+    found = check(program, path)
+    if not review or found.status != REFUSED:
+        return found
+    other = check(review, path)
+    return found if other.status == FAILED else other
+
+
 def _want_file(path: str) -> None:
     """Raises `Fault` at a FIFO, a device or a socket, for which the program would wait, or which it would read long."""
     if os.path.exists(path) and not os.path.isdir(path) and not os.path.isfile(path):
