@@ -1,5 +1,5 @@
 -- The contract of `report` from those of its parts.
-use Rattle.std.proofs.Common.{◌≡◌, ◌⊎◌, ℕ, List, Option, Result, Ok, Err, inl, inr, sym, subst, ◌∙◌}
+use Rattle.std.proofs.Common.{◌≡◌, ◌⊎◌, ℕ, List, Result, Ok, Err, inl, inr, sym, subst, ◌∙◌}
 use Rattle.std.specs.Prelude.{IfErr, IfOk}
 use Rattle.audit_collect.specs.declared.report.Report.{Report}
 use Rattle.audit_commands.specs.Auditing.{Given, IsAnswer, IsNotAudited}

@@ -1,5 +1,5 @@
 -- The output of `cautions`, of `report` and of `rules`.
-use Rattle.std.specs.Prelude.{◌≡◌, ℕ, List, Option, Ok}
+use Rattle.std.specs.Prelude.{◌≡◌, ℕ, List, Ok}
 use Rattle.sudo_grammar.specs.declared.policy.Policy.{Policy}
 use Rattle.sudo_load.specs.declared.supply.Supply.{Supply}
 use Rattle.audit_collect.specs.declared.report.Report.{Report}
