@@ -224,7 +224,7 @@ fn joined<'a>(
     Ok(joined)
 }
 
-// Returns the rows of what is found on the hosts of classes.
+// Returns the rows for the findings on the hosts of classes.
 fn rows_of_each(
     alloc: Global,
     pair: &Pair<'_>,

@@ -150,8 +150,8 @@ fn add_class(
     }
 }
 
-/// Returns the rows of what is found for the user on the hosts, for each class of asks. Returns `AllocError` if allocation
-/// fails.
+/// Returns the rows for the findings on the hosts for the user, one class of asks after the other. Returns `AllocError` if
+/// allocation fails.
 pub(crate) fn rows_on(
     alloc: Global,
     pair: &Pair<'_>,

@@ -1,5 +1,6 @@
 //! The files of a policy below a folder.
 ghost use Rattle.std.specs.Prelude.{◌≡◌, ◌≢◌, ◌⊎◌, IfErr, IfOk, IsErrOf};
+ghost use Rattle.run_base.specs.Holding.{IsFileFault, IsFolderFault};
 ghost use Rattle.review_files.specs.Reading as spec;
 ghost use Rattle.review_files.specs.declared.tree.Kind.TheVariants as kinds;
 ghost use Rattle.review_files.specs.declared.walk.Outcome.TheVariants as outcomes;
@@ -125,11 +126,31 @@ fn names_below<T: Tree>(
 impl<T: Tree> Files for Rooted<T> {
     ghost held = { λ s. spec.below (T.shows s.tree) (T.reads s.tree) (T.lists s.tree) s.folder };
 
-    fn file(&mut self, alloc: Global, path: &[u8]) -> Result<Option<Seq<u8>>, FilesFault> {
+    fn file(&mut self, alloc: Global, path: &[u8]) -> Result<Option<Seq<u8>>, FilesFault>
+        ensures text { let held = spec.below (T.shows self.old.tree) (T.reads self.old.tree)
+            (T.lists self.old.tree) self.old.folder in
+            IfOk result (λ text. held.is_file path.now text) }
+        ensures fault { let held = spec.below (T.shows self.old.tree) (T.reads self.old.tree)
+            (T.lists self.old.tree) self.old.folder in
+            IfErr result (IsFileFault held path.now) }
+        ensures same { self.new ≡ self.old }
+        ensures below { spec.IsText (T.shows self.old.tree) (T.reads self.old.tree)
+            self.old.folder path.now result }
+    {
         text_below(&self.tree, alloc, self.folder.as_slice(), path)
     }
 
-    fn folder(&mut self, alloc: Global, path: &[u8]) -> Result<Seq<Seq<u8>>, FilesFault> {
+    fn folder(&mut self, alloc: Global, path: &[u8]) -> Result<Seq<Seq<u8>>, FilesFault>
+        ensures names { let held = spec.below (T.shows self.old.tree) (T.reads self.old.tree)
+            (T.lists self.old.tree) self.old.folder in
+            IfOk result (λ names. held.is_folder path.now names) }
+        ensures fault { let held = spec.below (T.shows self.old.tree) (T.reads self.old.tree)
+            (T.lists self.old.tree) self.old.folder in
+            IfErr result (IsFolderFault held path.now) }
+        ensures same { self.new ≡ self.old }
+        ensures below { spec.AreNames (T.shows self.old.tree) (T.lists self.old.tree)
+            self.old.folder path.now result }
+    {
         names_below(&self.tree, alloc, self.folder.as_slice(), path)
     }
 }

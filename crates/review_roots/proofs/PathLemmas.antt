@@ -326,7 +326,7 @@ pub no-root :
 no-root h target least found user are less none =
     not-found (any_steps h target) h.states.now least found user are ((host-keeps h).starts user less) none
 
--- nor does one lead from a user whose start is none
+-- no chain leads from a user without a start
 pub starts-chainless :
     (h : HostSteps) (target : ℕ) (found : List Found) (starts : List (Option ℕ)) →
     AreFound (any_steps h target) h.states.now h.least found →

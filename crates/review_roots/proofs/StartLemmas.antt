@@ -38,7 +38,7 @@ there-states : (xs : List State) → found_states (map found_there xs) ≡ xs
 there-states [] = refl
 there-states (x ∷ xs) = ap (λ ys. x ∷ ys) (there-states xs)
 
--- a state that may not begin a chain has no added group, and the start of its user is none
+-- a state that may not begin a chain has no added group, and its user has no start
 unstarted : (o : Option (Option ℕ)) (b : Bool) → starts_or o b ≡ false → (o ≡ Some None) × (b ≡ false)
 unstarted None b e = cc
 unstarted (Some None) b e = (refl, e)

@@ -361,7 +361,7 @@ fn search_levels(
 }
 
 // Returns the states from which a chain of the steps that count, of the least level or a better one, leads to the target, each
-// with the best level of such a chain. A user whose start is none is not looked at.
+// with the best level of such a chain. A user without a start is passed over.
 fn found_of(
     alloc: Global,
     steps: &HostSteps<'_, '_>,

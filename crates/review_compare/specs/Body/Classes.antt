@@ -27,7 +27,7 @@ abbrev pub AreRightIn : Pair → ℕ → List ℕ → List AskClass → List Com
 AreRightIn p user hosts ks fs = (length fs ≡ length ks) × ((n : ℕ) (k : AskClass) (f : Compared) → n < length ks →
     IsRightIn p user hosts (AreAsked (get_or ks n k).asked.items) (get_or fs n f))
 
--- a class: the blocks that list the user on its first host, and what is found for each class of asks is right on all its hosts
+-- a class has the blocks that list the user on its first host; its finding for each class of asks is right on all its hosts
 pub record IsClass (p : Pair) (user : ℕ) (u : Person) (ks : List AskClass) (k : HostClass) : Type 0 where
   pub spot : IsSpot p k.spot
   pub own : k.spot.user ≡ user

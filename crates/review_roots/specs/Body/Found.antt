@@ -31,11 +31,11 @@ starts_or None b = true
 starts_or (Some None) b = b
 starts_or (Some (Some i)) b = true
 
--- the state has an added group, or its user's start is not none
+-- the state has an added group, or its user has a start
 abbrev pub may_start : List (Option ℕ) → State → Bool
 may_start starts s = starts_or (slice_get starts s.user) (is_some s.added)
 
--- no chain of any steps, of the least level or a better one, leads from a user whose start is none
+-- no chain of the least level or a better one leads from a user without a start
 abbrev pub HaveNoChain : HostSteps → ℕ → List (Option ℕ) → Type 0
 HaveNoChain h target starts =
     (user : ℕ) → slice_get starts user ≡ Some None → HasNoPath (any_steps h target) h.least (state_with None user)
