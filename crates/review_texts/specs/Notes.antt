@@ -1,0 +1,34 @@
+-- What decides for sudo besides the words of a request: the digest of a command's file, the time, another root. It is not
+-- judged. In a masked text a command that fits nothing stands for it, in the list before the first command that it is about.
+use Rattle.std.specs.Prelude.{ℕ, ◌&&◌, List, [], ◌∷◌, codes, find, if◌then◌else◌, Option, None, Some}
+use Rattle.std.specs.Str.{bytes_eq}
+use Rattle.sudo_text.specs.declared.token.Ch.{Ch}
+use Rattle.sudo_grammar.specs.declared.kind.Atom.{Atom}
+use Rattle.sudo_grammar.specs.declared.kind.Atom.TheVariants as atoms
+use Rattle.sudo_grammar.specs.Words.{bytes_of, has_no_escape}
+use Rattle.review_texts.specs.declared.note.Note.{Note}
+use Rattle.review_texts.specs.declared.note.Note.TheVariants.{Digest, Time, Chroot}
+
+-- the notes, in the order in which they are listed
+abbrev pub notes : List Note
+notes = Digest ∷ Time ∷ Chroot ∷ []
+
+abbrev pub note_name : Note → List ℕ
+note_name Digest = codes "digest"
+note_name Time = codes "time"
+note_name Chroot = codes "chroot"
+
+-- the path that stands for a note: no command has it, since its brackets have no character
+abbrev pub note_path : Note → List ℕ
+note_path Digest = codes "/[z-a]d"
+note_path Time = codes "/[z-a]t"
+note_path Chroot = codes "/[z-a]c"
+
+-- the note for which a path without arguments stands
+abbrev pub note_of : List Ch → Option Note
+note_of path = if has_no_escape path then find (λ note. bytes_eq (bytes_of path) (note_path note)) notes else None
+
+-- the note for which a command stands
+abbrev pub note_in : Atom → Option Note
+note_in (atoms.Command path None) = note_of path
+note_in _ = None

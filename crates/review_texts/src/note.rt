@@ -1,0 +1,78 @@
+//! What is noted and not judged.
+ghost use Rattle.std.specs.Prelude.{◌≡◌};
+ghost use Rattle.std.specs.Str.{bytes_eq};
+ghost use Rattle.sudo_grammar.specs.Words.{bytes_of, has_no_escape};
+ghost use Rattle.review_texts.specs.Notes as spec;
+
+use sudo_grammar::Atom;
+use sudo_text::Ch;
+
+/// What decides for sudo besides the words of a request, and is not judged, in the order in which notes are listed.
+#[derive(Clone, Copy, Debug, PartialEq, Eq)]
+pub enum Note {
+    /// The digest of a command's file.
+    Digest,
+    /// The time at which a command is run.
+    Time,
+    /// The root below which a command is run.
+    Chroot,
+}
+
+impl Note {
+    /// Returns the name of the note.
+    pub fn name(self) -> &'static [u8]
+        ensures { result.now ≡ spec.note_name self }
+    {
+        match self {
+            Note::Digest => b"digest",
+            Note::Time => b"time",
+            Note::Chroot => b"chroot",
+        }
+    }
+}
+
+// Whether no character is escaped.
+fn is_unescaped(chars: &[Ch]) -> bool
+    ensures { result ≡ has_no_escape chars.now }
+{
+    chars.iter().all(|ch| !ch.escaped)
+}
+
+// Whether the bytes of characters are a text.
+fn spells(chars: &[Ch], text: &[u8]) -> bool
+    ensures { result ≡ bytes_eq (bytes_of chars.now) text.now }
+{
+    match (chars, text) {
+        ([], []) => true,
+        ([ch, chars @ ..], [byte, text @ ..]) => ch.byte == *byte && spells(chars, text),
+        _ => false,
+    }
+}
+
+// Returns the note for which a path without arguments stands, if it does.
+fn note_of(path: &[Ch]) -> Option<Note>
+    ensures { result ≡ spec.note_of path.now }
+{
+    if !is_unescaped(path) {
+        return None;
+    }
+    if spells(path, b"/[z-a]d") {
+        Some(Note::Digest)
+    } else if spells(path, b"/[z-a]t") {
+        Some(Note::Time)
+    } else if spells(path, b"/[z-a]c") {
+        Some(Note::Chroot)
+    } else {
+        None
+    }
+}
+
+/// Returns the note for which a command stands, if it does.
+pub fn note_in(atom: &Atom) -> Option<Note>
+    ensures { result ≡ spec.note_in atom.now }
+{
+    match atom {
+        Atom::Command { path, args: None } => note_of(path.as_slice()),
+        _ => None,
+    }
+}
