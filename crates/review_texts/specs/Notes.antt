@@ -20,9 +20,9 @@ note_name Chroot = codes "chroot"
 
 -- the path that stands for a note: no command has it, since its brackets have no character
 abbrev pub note_path : Note → List ℕ
-note_path Digest = codes "/[z-a]d"
-note_path Time = codes "/[z-a]t"
-note_path Chroot = codes "/[z-a]c"
+note_path Digest = codes "/d[z-a]"
+note_path Time = codes "/t[z-a]"
+note_path Chroot = codes "/c[z-a]"
 
 -- the note for which a path without arguments stands
 abbrev pub note_of : List Ch → Option Note

@@ -56,11 +56,11 @@ fn note_of(path: &[Ch]) -> Option<Note>
     if !is_unescaped(path) {
         return None;
     }
-    if spells(path, b"/[z-a]d") {
+    if spells(path, b"/d[z-a]") {
         Some(Note::Digest)
-    } else if spells(path, b"/[z-a]t") {
+    } else if spells(path, b"/t[z-a]") {
         Some(Note::Time)
-    } else if spells(path, b"/[z-a]c") {
+    } else if spells(path, b"/c[z-a]") {
         Some(Note::Chroot)
     } else {
         None
