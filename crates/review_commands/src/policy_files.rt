@@ -15,24 +15,26 @@ pub(crate) enum PolicyFiles<'a> {
     Below(Rooted<HostTree<'a>>),
 }
 
-/// Returns the files of a policy, with their masked texts. Returns `AllocError` if allocation failed.
+/// Returns the files of a policy, with their masked texts: with notes for what is not judged, or those forms refused. Returns
+/// `AllocError` if allocation failed.
 pub(crate) fn policy_files<'a>(
     rt: &'a HostRuntime,
     policy: PolicyPath<'_>,
+    noted: bool,
 ) -> Result<Masked<PolicyFiles<'a>>, AllocError> {
     match policy.root {
-        None => Ok(machine_files(rt)),
+        None => Ok(Masked::new(PolicyFiles::Machine(Disk::new(rt)), noted)),
         Some(root) => {
             let folder = Seq::from_slice(rt.alloc(), root.as_bytes())?;
             let files = Rooted::new(HostTree::new(rt), folder);
-            Ok(Masked::new(PolicyFiles::Below(files)))
+            Ok(Masked::new(PolicyFiles::Below(files), noted))
         }
     }
 }
 
-/// Returns the files of this machine, with their masked texts.
+/// Returns the files of this machine, with their masked texts. What is not judged is refused.
 pub(crate) fn machine_files<'a>(rt: &'a HostRuntime) -> Masked<PolicyFiles<'a>> {
-    Masked::new(PolicyFiles::Machine(Disk::new(rt)))
+    Masked::new(PolicyFiles::Machine(Disk::new(rt)), false)
 }
 
 impl Files for PolicyFiles<'_> {

@@ -41,7 +41,7 @@ fn run_report<T: Threads + Wait + Sync>(
     let alloc = rt.alloc();
     let mut out = Device::new(rt.stdout());
     let mut err = Device::new(rt.stderr());
-    let mut files = match policy_files(rt, paths.policy) {
+    let mut files = match policy_files(rt, paths.policy, true) {
         Ok(files) => files,
         Err(refused) => return report_explained(alloc, PROGRAM, refused, &mut err),
     };
@@ -95,7 +95,7 @@ fn run_check(rt: &HostRuntime, policy: PolicyPath<'_>) -> u8 {
     let alloc = rt.alloc();
     let mut out = Device::new(rt.stdout());
     let mut err = Device::new(rt.stderr());
-    match policy_files(rt, policy) {
+    match policy_files(rt, policy, true) {
         Ok(mut files) => check_run(
             alloc,
             policy.file.as_bytes(),
@@ -117,7 +117,7 @@ fn run_cautions(
     let alloc = rt.alloc();
     let mut out = Device::new(rt.stdout());
     let mut err = Device::new(rt.stderr());
-    let mut files = match policy_files(rt, policy) {
+    let mut files = match policy_files(rt, policy, true) {
         Ok(files) => files,
         Err(refused) => return report_explained(alloc, PROGRAM, refused, &mut err),
     };
@@ -140,7 +140,7 @@ fn run_grants(rt: &HostRuntime, paths: Paths<'_>, names: ScopeNames<'_>) -> u8 {
     let alloc = rt.alloc();
     let mut out = Device::new(rt.stdout());
     let mut err = Device::new(rt.stderr());
-    let mut files = match policy_files(rt, paths.policy) {
+    let mut files = match policy_files(rt, paths.policy, true) {
         Ok(files) => files,
         Err(refused) => return report_explained(alloc, PROGRAM, refused, &mut err),
     };
@@ -166,12 +166,13 @@ fn run_grants(rt: &HostRuntime, paths: Paths<'_>, names: ScopeNames<'_>) -> u8 {
     }
 }
 
-// Lists who can become root under a policy, and returns the exit status.
+// Lists who can become root under a policy, and returns the exit status. A policy with what is not judged is refused: a
+// denial that may not hold could hide a chain.
 fn run_roots(rt: &HostRuntime, paths: Paths<'_>, all: bool) -> u8 {
     let alloc = rt.alloc();
     let mut out = Device::new(rt.stdout());
     let mut err = Device::new(rt.stderr());
-    let mut files = match policy_files(rt, paths.policy) {
+    let mut files = match policy_files(rt, paths.policy, false) {
         Ok(files) => files,
         Err(refused) => return report_explained(alloc, PROGRAM, refused, &mut err),
     };
@@ -202,7 +203,7 @@ fn run_subjects(rt: &HostRuntime, paths: Paths<'_>) -> u8 {
     let alloc = rt.alloc();
     let mut out = Device::new(rt.stdout());
     let mut err = Device::new(rt.stderr());
-    let mut files = match policy_files(rt, paths.policy) {
+    let mut files = match policy_files(rt, paths.policy, true) {
         Ok(files) => files,
         Err(refused) => return report_explained(alloc, PROGRAM, refused, &mut err),
     };

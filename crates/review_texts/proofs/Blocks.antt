@@ -1,5 +1,5 @@
 -- The blocks of a text.
-use Rattle.std.proofs.Common.{◌≡◌, ℕ, zero, suc, ◌-◌, true, false, cond, List, [], ◌∷◌, ◌++◌, length}
+use Rattle.std.proofs.Common.{◌≡◌, ℕ, zero, suc, ◌-◌, Bool, true, false, cond, List, [], ◌∷◌, ◌++◌, length}
 use Rattle.std.proofs.Common.{drop, take, refl, sym, ◌∙◌, ap, subst, arith, append_assoc}
 use Rattle.std.proofs.Common.{Result, Ok, Err}
 use Rattle.std.specs.Prelude.{◌==◌, ◌<◌, OnOk}
@@ -50,40 +50,40 @@ take_written (suc n) (b ∷ bs) = elim (b == 10)
     [ true ↦ ap (λ (ys : List ℕ). b ∷ ys) (take_written n bs) | false ↦ ap (λ (ys : List ℕ). b ∷ ys) (take_written (suc n) bs) ]
 
 -- One block more.
-pub block_before : (line : Line) (lines : List Line) (bytes rest after block tail : List ℕ) → bytes ≡ written line rest
-    → after ≡ drop (length (written line rest)) rest → IsBlock line bytes block → AreBlocks lines after tail
-    → AreBlocks (line ∷ lines) rest (block ++ tail)
-block_before line lines bytes rest after block tail front back is are =
-    (block, tail, subst (λ (b : List ℕ). IsBlock line b block) front is, subst (λ (r : List ℕ). AreBlocks lines r tail) back are, refl)
+pub block_before : (noted : Bool) (line : Line) (lines : List Line) (bytes rest after block tail : List ℕ) → bytes ≡ written line rest
+    → after ≡ drop (length (written line rest)) rest → IsBlock noted line bytes block → AreBlocks noted lines after tail
+    → AreBlocks noted (line ∷ lines) rest (block ++ tail)
+block_before noted line lines bytes rest after block tail front back is are =
+    (block, tail, subst (λ (b : List ℕ). IsBlock noted line b block) front is, subst (λ (r : List ℕ). AreBlocks noted lines r tail) back are, refl)
 
 -- A block is appended.
-pub pushed : {A E : Type 0} (r : Result A E) (line : Line) (bytes block old new : List ℕ) → IsBlock line bytes block
-    → OnOk r (new ≡ old ++ block) → OnOk r ((part : List ℕ) × IsBlock line bytes part × (new ≡ old ++ part))
-pushed (Ok done) line bytes block old new is put = (block, is, put)
-pushed (Err fault) line bytes block old new is put = tt
+pub pushed : {A E : Type 0} (noted : Bool) (r : Result A E) (line : Line) (bytes block old new : List ℕ) → IsBlock noted line bytes block
+    → OnOk r (new ≡ old ++ block) → OnOk r ((part : List ℕ) × IsBlock noted line bytes part × (new ≡ old ++ part))
+pushed noted (Ok done) line bytes block old new is put = (block, is, put)
+pushed noted (Err fault) line bytes block old new is put = tt
 
 -- A text with a fault stays.
-pub text_fault : (fault : TextFault) (wanted : Result (List Line) TextFault) (text : List ℕ) → (fault ≡ faults.Memory → ⊥)
-    → Fails fault wanted → IsTextBy wanted text text
-text_fault faults.Memory wanted text other fails = absurd (other refl)
-text_fault (faults.BadQuote place col) wanted text other fails = rw fails refl
-text_fault (faults.BadHex place col) wanted text other fails = rw fails refl
-text_fault (faults.BadEscape place col) wanted text other fails = rw fails refl
-text_fault (faults.NotPrintable place col) wanted text other fails = rw fails refl
-text_fault (faults.TooLong file) wanted text other fails = rw fails refl
+pub text_fault : (noted : Bool) (fault : TextFault) (wanted : Result (List Line) TextFault) (text : List ℕ) → (fault ≡ faults.Memory → ⊥)
+    → Fails fault wanted → IsTextBy noted wanted text text
+text_fault noted faults.Memory wanted text other fails = absurd (other refl)
+text_fault noted (faults.BadQuote place col) wanted text other fails = rw fails refl
+text_fault noted (faults.BadHex place col) wanted text other fails = rw fails refl
+text_fault noted (faults.BadEscape place col) wanted text other fails = rw fails refl
+text_fault noted (faults.NotPrintable place col) wanted text other fails = rw fails refl
+text_fault noted (faults.TooLong file) wanted text other fails = rw fails refl
 
 -- The invariant of the loop over lines, one line on.
-abbrev pub Along : List Line → List ℕ → List Line → List ℕ → List ℕ → Type 0
-Along lines text left rest masked = (tail : List ℕ) → AreBlocks left rest tail → AreBlocks lines text (masked ++ tail)
+abbrev pub Along : Bool → List Line → List ℕ → List Line → List ℕ → List ℕ → Type 0
+Along noted lines text left rest masked = (tail : List ℕ) → AreBlocks noted left rest tail → AreBlocks noted lines text (masked ++ tail)
 
-pub along_more : (lines left more : List Line) (line : Line) (text rest bytes after masked longer : List ℕ)
-    → Along lines text left rest masked → left ≡ line ∷ more → bytes ≡ written line rest
+pub along_more : (noted : Bool) (lines left more : List Line) (line : Line) (text rest bytes after masked longer : List ℕ)
+    → Along noted lines text left rest masked → left ≡ line ∷ more → bytes ≡ written line rest
     → after ≡ drop (length (written line rest)) rest
-    → ((block : List ℕ) × IsBlock line bytes block × (longer ≡ masked ++ block)) → Along lines text more after longer
-along_more lines left more line text rest bytes after masked longer along cut front back (block, is, pushed) = λ tail are.
-    let all : AreBlocks (line ∷ more) rest (block ++ tail) = block_before line more bytes rest after block tail front back is are in
-    let whole : AreBlocks lines text (masked ++ (block ++ tail)) =
-    along (block ++ tail) (subst (λ (ls : List Line). AreBlocks ls rest (block ++ tail)) (sym cut) all) in
+    → ((block : List ℕ) × IsBlock noted line bytes block × (longer ≡ masked ++ block)) → Along noted lines text more after longer
+along_more noted lines left more line text rest bytes after masked longer along cut front back (block, is, pushed) = λ tail are.
+    let all : AreBlocks noted (line ∷ more) rest (block ++ tail) = block_before noted line more bytes rest after block tail front back is are in
+    let whole : AreBlocks noted lines text (masked ++ (block ++ tail)) =
+    along (block ++ tail) (subst (λ (ls : List Line). AreBlocks noted ls rest (block ++ tail)) (sym cut) all) in
     let same : masked ++ (block ++ tail) ≡ longer ++ tail =
     sym (append_assoc masked block tail) ∙ ap (λ (xs : List ℕ). xs ++ tail) (sym pushed) in
-    subst (λ (xs : List ℕ). AreBlocks lines text xs) same whole
+    subst (λ (xs : List ℕ). AreBlocks noted lines text xs) same whole

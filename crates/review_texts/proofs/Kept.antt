@@ -31,8 +31,8 @@ read_alone before line (Some entry) (t, ts, spelled, writes) =
     (t, ts, spelled, (writes.0, whole_fits before entry writes.1))
 
 -- A line that is read has no mask.
-unmasked : (before : List Entry) (line : Line) (entry : Option EntryBody) → IsEntryOf (room_after before) line entry → IsUnmasked line
-unmasked before line entry is mask masks =
+unmasked : (noted : Bool) (before : List Entry) (line : Line) (entry : Option EntryBody) → IsEntryOf (room_after before) line entry → IsUnmasked noted line
+unmasked noted before line entry is mask masks =
     read_unrefused line (entry_of line entry ++ []) mask.form
     (entry, [], read_alone before line entry is, refl, refl) masks.refused
 
@@ -40,27 +40,27 @@ has_entries : (before : List Entry) (line : Line) (entry : Option EntryBody) →
     → HasEntries line
 has_entries before line entry is = (entry_of line entry ++ [], (entry, [], read_alone before line entry is, refl, refl))
 
-block_kept : (line : Line) (bytes block : List ℕ) → IsUnmasked line → HasEntries line → IsBlock line bytes block → block ≡ bytes
-block_kept line bytes block none read (inl (other, inl ((torn, plain, (unread, spaced)), same))) = absurd (unread read)
-block_kept line bytes block none read (inl (other, inr kept)) = kept.1
-block_kept line bytes block none read (inr (masked, (mask, is, rest), whole)) = absurd (none mask is)
+block_kept : (noted : Bool) (line : Line) (bytes block : List ℕ) → IsUnmasked noted line → HasEntries line → IsBlock noted line bytes block → block ≡ bytes
+block_kept noted line bytes block none read (inl (other, inl ((torn, plain, (unread, spaced)), same))) = absurd (unread read)
+block_kept noted line bytes block none read (inl (other, inr kept)) = kept.1
+block_kept noted line bytes block none read (inr (masked, (mask, is, rest), whole)) = absurd (none mask is)
 
-blocks_kept : (before : List Entry) (lines : List Line) (entries : List Entry) (text masked : List ℕ)
-    → AreEntriesAfter before lines entries → AreBlocks lines text masked → masked ≡ text
-blocks_kept before [] entries text masked are blocks = blocks
-blocks_kept before (line ∷ lines) entries text masked (entry, rest, is, are, whole) (block, tail, first, others, joined) =
-    let kept : block ≡ written line text = block_kept line (written line text) block (unmasked before line entry is)
+blocks_kept : (noted : Bool) (before : List Entry) (lines : List Line) (entries : List Entry) (text masked : List ℕ)
+    → AreEntriesAfter before lines entries → AreBlocks noted lines text masked → masked ≡ text
+blocks_kept noted before [] entries text masked are blocks = blocks
+blocks_kept noted before (line ∷ lines) entries text masked (entry, rest, is, are, whole) (block, tail, first, others, joined) =
+    let kept : block ≡ written line text = block_kept noted line (written line text) block (unmasked noted before line entry is)
     (has_entries before line entry is) first in
     let after : tail ≡ drop (length (written line text)) text =
-    blocks_kept (before ++ entry_of line entry) lines rest (drop (length (written line text)) text) tail are others in
+    blocks_kept noted (before ++ entry_of line entry) lines rest (drop (length (written line text)) text) tail are others in
     let front : written line text ≡ take (length (written line text)) text = sym (take_written (suc (length line.joins)) text) in
     joined ∙ (ap (λ (b : List ℕ). b ++ tail) (kept ∙ front) ∙ (ap (λ (r : List ℕ). take (length (written line text)) text ++ r) after
     ∙ take-append-drop (length (written line text)) text))
 
-pub text_kept : (text masked : List ℕ) (lines : List Line) (entries : List Entry) → lines_of 0 text ≡ Ok lines
-    → AreEntries lines entries → IsMaskedText text masked → masked ≡ text
-text_kept text masked lines entries cut are is = by (has_word text) is
+pub text_kept : (noted : Bool) (text masked : List ℕ) (lines : List Line) (entries : List Entry) → lines_of 0 text ≡ Ok lines
+    → AreEntries lines entries → IsMaskedText noted text masked → masked ≡ text
+text_kept noted text masked lines entries cut are is = by (has_word text) is
   where
-    by : (t : Bool) → IsMaskedBy t text masked → masked ≡ text
-    by true is = blocks_kept [] lines entries text masked are (subst (λ r. IsTextBy r text masked) cut is)
+    by : (t : Bool) → IsMaskedBy noted t text masked → masked ≡ text
+    by true is = blocks_kept noted [] lines entries text masked are (subst (λ r. IsTextBy noted r text masked) cut is)
     by false same = same

@@ -1,5 +1,5 @@
--- The path that no command has.
-use Rattle.std.proofs.Common.{◌≡◌, ℕ, Bool, true, false, List, [], ◌∷◌, map, None, refl, arith}
+-- The paths that no command has.
+use Rattle.std.proofs.Common.{◌≡◌, ℕ, Bool, true, false, List, [], ◌∷◌, map, None, Some, refl, arith}
 use Rattle.std.proofs.lemmas.Bool.{true≢false}
 use Rattle.std.proofs.lemmas.Bool.Decides.{nat_tests}
 use Rattle.std.specs.Prelude.{◌&&◌, ◌||◌, ◌==◌, not, nat_le}
@@ -9,6 +9,9 @@ use Rattle.sudo_match.specs.declared.patterns.Slash.TheVariants.{Not}
 use Rattle.sudo_match.specs.Pattern.{begins, range_at, items_after, bracket_after, part_at, parts_after, fits}
 use Rattle.sudo_match.specs.Matching.{command_fits}
 use Rattle.review_texts.specs.Places.{no_path}
+use Rattle.review_texts.specs.declared.note.Note.{Note}
+use Rattle.review_texts.specs.declared.note.Note.TheVariants.{Digest, Time, Chroot}
+use Rattle.review_texts.specs.Notes.{note_in, note_path}
 
 between : (b : ℕ) → (nat_le 122 b && nat_le b 97) ≡ false
 between b = grind (arith, nat_tests)
@@ -40,3 +43,30 @@ nothing_fits (a ∷ b ∷ c ∷ d ∷ e ∷ []) arguments =
 nothing_fits (a ∷ b ∷ c ∷ d ∷ e ∷ f ∷ rest) arguments =
     whole_none _ (and_none (a == 47) _ (and_none (b == 108) _ (and_none (c == 105) _ (and_none (d == 115) _ (and_none (e == 116) _
     (bracket_none (not (f == 47)) (fits [] rest Not) (nat_le 122 f && nat_le f 97) (between f)))))))
+
+pub note_fits_nothing : (note : Note) (command arguments : List ℕ)
+    → command_fits (atoms.Command (map plain (note_path note)) None) command arguments ≡ false
+unfolding begins range_at items_after bracket_after part_at parts_after fits command_fits
+note_fits_nothing Digest [] arguments = refl
+note_fits_nothing Digest (a ∷ []) arguments = whole_none _ (and_none (a == 47) _ refl)
+note_fits_nothing Digest (a ∷ b ∷ []) arguments = whole_none _ (and_none (a == 47) _ (and_none (b == 100) _ refl))
+note_fits_nothing Digest (a ∷ b ∷ c ∷ rest) arguments =
+    whole_none _ (and_none (a == 47) _ (and_none (b == 100) _
+    (bracket_none (not (c == 47)) (fits [] rest Not) (nat_le 122 c && nat_le c 97) (between c))))
+note_fits_nothing Time [] arguments = refl
+note_fits_nothing Time (a ∷ []) arguments = whole_none _ (and_none (a == 47) _ refl)
+note_fits_nothing Time (a ∷ b ∷ []) arguments = whole_none _ (and_none (a == 47) _ (and_none (b == 116) _ refl))
+note_fits_nothing Time (a ∷ b ∷ c ∷ rest) arguments =
+    whole_none _ (and_none (a == 47) _ (and_none (b == 116) _
+    (bracket_none (not (c == 47)) (fits [] rest Not) (nat_le 122 c && nat_le c 97) (between c))))
+note_fits_nothing Chroot [] arguments = refl
+note_fits_nothing Chroot (a ∷ []) arguments = whole_none _ (and_none (a == 47) _ refl)
+note_fits_nothing Chroot (a ∷ b ∷ []) arguments = whole_none _ (and_none (a == 47) _ (and_none (b == 99) _ refl))
+note_fits_nothing Chroot (a ∷ b ∷ c ∷ rest) arguments =
+    whole_none _ (and_none (a == 47) _ (and_none (b == 99) _
+    (bracket_none (not (c == 47)) (fits [] rest Not) (nat_le 122 c && nat_le c 97) (between c))))
+
+pub note_found : (note : Note) → note_in (atoms.Command (map plain (note_path note)) None) ≡ Some note
+note_found Digest = refl
+note_found Time = refl
+note_found Chroot = refl

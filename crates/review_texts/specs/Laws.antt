@@ -1,5 +1,5 @@
 -- Statements of laws.
-use Rattle.std.specs.Prelude.{◌≡◌, ℕ, false, List, [], ◌∷◌, ◌++◌, length, drop, map, None, Ok}
+use Rattle.std.specs.Prelude.{◌≡◌, ℕ, Bool, false, List, [], ◌∷◌, ◌++◌, length, drop, map, None, Some, Ok}
 use Rattle.sudo_text.specs.declared.line.Line.{Line}
 use Rattle.sudo_text.specs.Lines.{lines_of}
 use Rattle.sudo_text.specs.Pieces.{plain}
@@ -9,12 +9,14 @@ use Rattle.sudo_parser.specs.Parsed.{AreEntries}
 use Rattle.sudo_match.specs.Matching.{command_fits}
 use Rattle.review_texts.specs.Places.{no_path}
 use Rattle.review_texts.specs.Masks.{newline_count}
+use Rattle.review_texts.specs.declared.note.Note.{Note}
+use Rattle.review_texts.specs.Notes.{note_in, note_path}
 use Rattle.review_texts.specs.MaskedTexts.{written, IsMaskedText}
 
 -- the text of a file that the fixed parser reads is left alone, byte for byte
 abbrev pub ReadIsLeft : Type 0
-ReadIsLeft = (text masked : List ℕ) (lines : List Line) (entries : List Entry) → lines_of 0 text ≡ Ok lines
-    → AreEntries lines entries → IsMaskedText text masked → masked ≡ text
+ReadIsLeft = (noted : Bool) (text masked : List ℕ) (lines : List Line) (entries : List Entry) → lines_of 0 text ≡ Ok lines
+    → AreEntries lines entries → IsMaskedText noted text masked → masked ≡ text
 
 -- `masked` is cut into as many parts as there are lines, and the rest of the text; each part has as many newlines as the
 -- bytes that its line was written as, so that it begins at the same physical line
@@ -25,17 +27,22 @@ StaysBy (line ∷ lines) text masked =
     × StaysBy lines (drop (length (written line text)) text) rest
 
 abbrev pub LinesStay : Type 0
-LinesStay = (text masked : List ℕ) (lines : List Line) → lines_of 0 text ≡ Ok lines → IsMaskedText text masked
+LinesStay = (noted : Bool) (text masked : List ℕ) (lines : List Line) → lines_of 0 text ≡ Ok lines → IsMaskedText noted text masked
     → StaysBy lines text masked
 
 -- a masked text has as many physical lines as the text
 abbrev pub CountStays : Type 0
-CountStays = (text masked : List ℕ) → IsMaskedText text masked → newline_count masked ≡ newline_count text
+CountStays = (noted : Bool) (text masked : List ℕ) → IsMaskedText noted text masked → newline_count masked ≡ newline_count text
 
 -- a text has one masked text
 abbrev pub OneMaskedText : Type 0
-OneMaskedText = (text a b : List ℕ) → IsMaskedText text a → IsMaskedText text b → a ≡ b
+OneMaskedText = (noted : Bool) (text a b : List ℕ) → IsMaskedText noted text a → IsMaskedText noted text b → a ≡ b
 
 -- no command fits what stands in place of `list`, with whichever arguments
 abbrev pub NothingFits : Type 0
 NothingFits = (command arguments : List ℕ) → command_fits (atoms.Command (map plain no_path) None) command arguments ≡ false
+
+-- no command fits what stands for a note, which is found again
+abbrev pub NotesFitNothing : Type 0
+NotesFitNothing = (note : Note) → (note_in (atoms.Command (map plain (note_path note)) None) ≡ Some note)
+    × ((command arguments : List ℕ) → command_fits (atoms.Command (map plain (note_path note)) None) command arguments ≡ false)

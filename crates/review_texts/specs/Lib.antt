@@ -1,5 +1,6 @@
 pub mod Words
 pub mod Options
+pub mod Digests
 pub mod Places
 pub mod Masks
 pub mod Notes

@@ -76,41 +76,41 @@ IsPlainBlock line bytes block =
     ⊎ ((MaySpace line bytes → ⊥) × (block ≡ bytes))
 
 -- what the bytes of a line become
-abbrev pub IsBlock : Line → List ℕ → List ℕ → Type 0
-IsBlock line bytes block =
-    (IsUnmasked line × IsPlainBlock line bytes block)
-    ⊎ ((masked : Line) × IsMasked line masked × IsBlockBy line masked bytes block)
+abbrev pub IsBlock : Bool → Line → List ℕ → List ℕ → Type 0
+IsBlock noted line bytes block =
+    (IsUnmasked noted line × IsPlainBlock line bytes block)
+    ⊎ ((masked : Line) × IsMasked noted line masked × IsBlockBy line masked bytes block)
 
 -- what a text becomes that begins with these logical lines
-abbrev pub AreBlocks : List Line → List ℕ → List ℕ → Type 0
-AreBlocks [] text masked = masked ≡ text
-AreBlocks (line ∷ lines) text masked =
-    (block rest : List ℕ) × IsBlock line (written line text) block
-    × AreBlocks lines (drop (length (written line text)) text) rest × (masked ≡ block ++ rest)
+abbrev pub AreBlocks : Bool → List Line → List ℕ → List ℕ → Type 0
+AreBlocks noted [] text masked = masked ≡ text
+AreBlocks noted (line ∷ lines) text masked =
+    (block rest : List ℕ) × IsBlock noted line (written line text) block
+    × AreBlocks noted lines (drop (length (written line text)) text) rest × (masked ≡ block ++ rest)
 
 -- what the text becomes, by its lines; a text that has a fault before any token is read stays
-abbrev pub IsTextBy : Result (List Line) TextFault → List ℕ → List ℕ → Type 0
-IsTextBy (Ok lines) text masked = AreBlocks lines text masked
-IsTextBy (Err fault) text masked = masked ≡ text
+abbrev pub IsTextBy : Bool → Result (List Line) TextFault → List ℕ → List ℕ → Type 0
+IsTextBy noted (Ok lines) text masked = AreBlocks noted lines text masked
+IsTextBy noted (Err fault) text masked = masked ≡ text
 
 -- what the text becomes, if one of the words stands in it or not
-abbrev pub IsMaskedBy : Bool → List ℕ → List ℕ → Type 0
-IsMaskedBy true text masked = IsTextBy (lines_of 0 text) text masked
-IsMaskedBy false text masked = masked ≡ text
+abbrev pub IsMaskedBy : Bool → Bool → List ℕ → List ℕ → Type 0
+IsMaskedBy noted true text masked = IsTextBy noted (lines_of 0 text) text masked
+IsMaskedBy noted false text masked = masked ≡ text
 
 -- the masked text of a file
-abbrev pub IsMaskedText : List ℕ → List ℕ → Type 0
-IsMaskedText text masked = IsMaskedBy (has_word text) text masked
+abbrev pub IsMaskedText : Bool → List ℕ → List ℕ → Type 0
+IsMaskedText noted text masked = IsMaskedBy noted (has_word text) text masked
 
 -- the masked text of a file that may be missing
-abbrev pub IsMaskedFile : Option (List ℕ) → Option (List ℕ) → Type 0
-IsMaskedFile None masked = masked ≡ None
-IsMaskedFile (Some text) masked = (bytes : List ℕ) × IsMaskedText text bytes × (masked ≡ Some bytes)
+abbrev pub IsMaskedFile : Bool → Option (List ℕ) → Option (List ℕ) → Type 0
+IsMaskedFile noted None masked = masked ≡ None
+IsMaskedFile noted (Some text) masked = (bytes : List ℕ) × IsMaskedText noted text bytes × (masked ≡ Some bytes)
 
 -- what reading files with their masked texts may give
-abbrev pub masked_holdings : Holdings → Holdings
-masked_holdings held = record {
-  is_file = λ path masked. (text : Option (List ℕ)) × held.is_file path text × IsMaskedFile text masked;
+abbrev pub masked_holdings : Bool → Holdings → Holdings
+masked_holdings noted held = record {
+  is_file = λ path masked. (text : Option (List ℕ)) × held.is_file path text × IsMaskedFile noted text masked;
   is_folder = held.is_folder;
   is_unreadable = held.is_unreadable;
   is_long = held.is_long;

@@ -1,4 +1,4 @@
--- Where a form stands that is refused by name and can be masked: for both forms the line up to it, with nothing or with a
+-- Where a form stands that is refused by name and can be masked: for each form the line up to it, with nothing or with a
 -- command in its place, is itself read, and what is read says that a command has to stand there.
 use Rattle.std.specs.Prelude.{◌≡◌, ℕ, ◌+◌, ◌-◌, Bool, true, false, ◌&&◌, ◌||◌, ◌==◌, nat_eq, nat_le, if◌then◌else◌}
 use Rattle.std.specs.Prelude.{List, [], ◌++◌, length, take, drop, slice_get, slice_index, codes, Option, None, Some}
@@ -18,6 +18,7 @@ use Rattle.sudo_grammar.specs.declared.fault.Unsupported.{Unsupported}
 use Rattle.sudo_grammar.specs.States.{Room}
 use Rattle.sudo_parser.specs.Parsed.{room_after, IsEntryOf, IsGrammarFaultOf}
 use Rattle.review_texts.specs.Options.{name_end, spells_option}
+use Rattle.review_texts.specs.Digests.{spells_digest}
 
 -- the room for definitions of a line that stands alone
 abbrev pub whole_room : Room
@@ -52,8 +53,8 @@ is_bare_at at (Some spec) =
 -- An option stands at an offset: it is spelled there, and the line up to its name is a rule in which the name is the
 -- last command, as that of an alias, with neither a tag nor `!` before it. So a command has to stand there, and after a
 -- runas and other options an option may.
-pub record StandsOption (line : Line) (at : ℕ) : Type 0 where
-  pub spelled : spells_option line.text at ≡ true
+pub record StandsOption (noted : Bool) (line : Line) (at : ℕ) : Type 0 where
+  pub spelled : spells_option noted line.text at ≡ true
   pub entry : EntryBody
   pub read : IsEntryIn (with_text line (take (name_end line.text at) line.text)) entry
   pub bare : is_bare_at at (last_spec entry) ≡ true
@@ -98,3 +99,16 @@ pub record StandsList (line : Line) (at : ℕ) : Type 0 where
   pub entry : EntryBody
   pub read : IsEntryIn (with_text line (with_path line.text at)) entry
   pub ends : begins_at at (last_command entry) ≡ true
+
+-- the member has no `!` before it, and begins at an offset
+abbrev pub is_first_at : ℕ → Option Member → Bool
+is_first_at at None = false
+is_first_at at (Some member) = (member.bangs == 0) && (member.token.start == at)
+
+-- A digest stands at an offset: it is spelled there, and the line up to it, with a path in its place, is read as a line
+-- that ends in a list of commands whose last one begins there, without `!` before it.
+pub record StandsDigest (line : Line) (at : ℕ) : Type 0 where
+  pub spelled : spells_digest line.text at ≡ true
+  pub entry : EntryBody
+  pub read : IsEntryIn (with_text line (with_path line.text at)) entry
+  pub first : is_first_at at (last_command entry) ≡ true

@@ -1,10 +1,11 @@
--- The words without which nothing of a text is written otherwise: the names of options, `list`, and the word of a Defaults
--- line with a backslash.
+-- The words without which nothing of a text is written otherwise: the names of options and of digests, `list`, and the word
+-- of a Defaults line with a backslash.
 use Rattle.std.specs.Prelude.{ℕ, Bool, false, ◌||◌, nat_eq, List, [], ◌∷◌, codes}
 use Rattle.std.specs.List.{list_any, starts_with}
 
 abbrev pub words : List (List ℕ)
-words = codes "list" ∷ codes "CWD" ∷ codes "TIMEOUT" ∷ codes "ROLE" ∷ codes "TYPE" ∷ codes "Defaults\\" ∷ []
+words = codes "list" ∷ codes "CWD" ∷ codes "TIMEOUT" ∷ codes "ROLE" ∷ codes "TYPE" ∷ codes "CHROOT" ∷ codes "NOTBEFORE"
+    ∷ codes "NOTAFTER" ∷ codes "sha224:" ∷ codes "sha256:" ∷ codes "sha384:" ∷ codes "sha512:" ∷ codes "Defaults\\" ∷ []
 
 -- one of the words begins a text
 abbrev pub begins_word : List ℕ → Bool

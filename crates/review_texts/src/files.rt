@@ -11,39 +11,45 @@ use sudo_text::Seq;
 #[derive(Drop)]
 pub struct Masked<F> {
     files: F,
+    noted: bool,
 }
 
 impl<F: Files> Masked<F> {
-    /// Creates the masked files of files.
-    pub fn new(files: F) -> Masked<F>
-        ensures { result.files ≡ files }
+    /// Creates the masked files of files: with masks for the forms alone that change nothing of who may run what, or, if
+    /// `noted`, for digests, times and roots too, each with a note before the commands that it is about.
+    pub fn new(files: F, noted: bool) -> Masked<F>
+        ensures { (result.files ≡ files) × (result.noted ≡ noted) }
     {
-        Masked { files }
+        Masked { files, noted }
     }
 }
 
 // Returns the masked text of a file that may be missing.
-fn mask_file(alloc: Global, text: Option<Seq<u8>>) -> Result<Option<Seq<u8>>, FilesFault>
-    ensures masked { IfOk result (λ masked. IsMaskedFile text masked) }
+fn mask_file(
+    alloc: Global,
+    noted: bool,
+    text: Option<Seq<u8>>,
+) -> Result<Option<Seq<u8>>, FilesFault>
+    ensures masked { IfOk result (λ masked. IsMaskedFile noted text masked) }
     ensures memory { IfErr result (λ fault. fault ≡ FilesFault.Memory) }
 {
     match text {
-        Some(text) => Ok(Some(mask_text(alloc, text)?)),
+        Some(text) => Ok(Some(mask_text(alloc, noted, text)?)),
         None => Ok(None),
     }
 }
 
 impl<F: Files> Files for Masked<F> {
-    ghost held = { λ s. masked_holdings (F.held s.files) };
+    ghost held = { λ s. masked_holdings s.noted (F.held s.files) };
 
     fn file(&mut self, alloc: Global, path: &[u8]) -> Result<Option<Seq<u8>>, FilesFault> {
         let text = self.files.file(alloc, path)?;
-        mask_file(alloc, text)
+        mask_file(alloc, self.noted, text)
     }
 
     fn main_file(&mut self, alloc: Global, path: &[u8]) -> Result<Option<Seq<u8>>, FilesFault> {
         let text = self.files.main_file(alloc, path)?;
-        mask_file(alloc, text)
+        mask_file(alloc, self.noted, text)
     }
 
     fn folder(&mut self, alloc: Global, path: &[u8]) -> Result<Seq<Seq<u8>>, FilesFault> {

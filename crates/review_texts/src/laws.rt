@@ -1,5 +1,5 @@
 //! Laws of masks.
-ghost use Rattle.review_texts.specs.Laws.{ReadIsLeft, LinesStay, CountStays, OneMaskedText, NothingFits};
+ghost use Rattle.review_texts.specs.Laws.{ReadIsLeft, LinesStay, CountStays, OneMaskedText, NothingFits, NotesFitNothing};
 
 /// The text of a file that the fixed parser reads is left alone, byte for byte.
 pub fn read_lines_are_left_alone()
@@ -20,4 +20,9 @@ pub fn texts_have_one_mask()
 /// No command fits what stands in place of `list`.
 pub fn no_command_is_listed()
     ensures { NothingFits }
+{}
+
+/// No command fits what stands for a note.
+pub fn notes_fit_nothing()
+    ensures { NotesFitNothing }
 {}

@@ -2,6 +2,7 @@
 #![tactic(auto)]
 
 mod bytes;
+mod digests;
 mod files;
 mod laws;
 mod mask;
@@ -16,7 +17,10 @@ mod trials;
 mod words;
 
 pub use files::Masked;
-pub use laws::{lines_stay, no_command_is_listed, read_lines_are_left_alone, texts_have_one_mask};
+pub use laws::{
+    lines_stay, no_command_is_listed, notes_fit_nothing, read_lines_are_left_alone,
+    texts_have_one_mask,
+};
 pub use mask::Mask;
 pub use masks::{as_written, mask_line, mask_of};
 pub use note::{Note, note_in};

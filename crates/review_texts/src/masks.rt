@@ -6,6 +6,7 @@ ghost use Rattle.review_texts.specs.Masks.{Stands, IsFirstStand, IsMask, IsUnmas
 
 use crate::Mask;
 use crate::bytes::{from, has_byte, is_blank, is_text, newline_count, peek};
+use crate::options::name_at;
 use crate::places::{NO_PATH, stands, with_text};
 use crate::reading::refused_form;
 use crate::words::has_word;
@@ -72,14 +73,19 @@ fn is_fit(line: &Line) -> bool
 }
 
 // Returns the first place at which a form stands, if it does. Returns `AllocError` if allocation fails.
-fn first_stand(alloc: Global, line: &Line, form: Unsupported) -> Result<Option<Mask>, AllocError>
+fn first_stand(
+    alloc: Global,
+    noted: bool,
+    line: &Line,
+    form: Unsupported,
+) -> Result<Option<Mask>, AllocError>
     requires { length line.now.text + 8 ≤ TEXT_LIMIT }
     ensures { IfOk result (λ found. MatchOption found
-        ((start end : ℕ) → Stands line.now form start end → ⊥)
-        (λ mask. IsFirstStand line.now form mask)) }
+        ((start end : ℕ) → Stands noted line.now form start end → ⊥)
+        (λ mask. IsFirstStand noted line.now form mask)) }
 {
     for at in 0..line.text.len() {
-        if let Some(end) = stands(alloc, line, form, at)? {
+        if let Some(end) = stands(alloc, noted, line, form, at)? {
             return Ok(Some(Mask {
                 form,
                 start: at,
@@ -90,10 +96,11 @@ fn first_stand(alloc: Global, line: &Line, form: Unsupported) -> Result<Option<M
     Ok(None)
 }
 
-/// Returns the mask of a line, if it has one. Returns `AllocError` if allocation fails.
-pub fn mask_of(alloc: Global, line: &Line) -> Result<Option<Mask>, AllocError>
-    ensures { IfOk result (λ found. MatchOption found (IsUnmasked line.now)
-        (λ mask. IsMask line.now mask)) }
+/// Returns the mask of a line, if it has one, with the forms that are noted and not judged or without them. Returns
+/// `AllocError` if allocation fails.
+pub fn mask_of(alloc: Global, noted: bool, line: &Line) -> Result<Option<Mask>, AllocError>
+    ensures { IfOk result (λ found. MatchOption found (IsUnmasked noted line.now)
+        (λ mask. IsMask noted line.now mask)) }
 {
     if !is_fit(line) {
         return Ok(None);
@@ -101,28 +108,44 @@ pub fn mask_of(alloc: Global, line: &Line) -> Result<Option<Mask>, AllocError>
     let Some(form) = refused_form(alloc, line)? else {
         return Ok(None);
     };
-    let found = first_stand(alloc, line, form)?;
+    let found = first_stand(alloc, noted, line, form)?;
     Ok(found)
 }
 
-// Appends what stands in place of a form of a given length.
-fn push_replacement(
-    alloc: Global,
-    form: Unsupported,
-    len: usize,
-    text: &mut Seq<u8>,
-) -> Result<(), AllocError>
-    ensures { OnOk result (text.new ≡ text.old ++ spec.replacement form len) }
+// Returns the note of an option, as a command before others.
+fn option_text(name: &[u8]) -> &'static [u8]
+    ensures { result.now ≡ spec.note_text (spec.option_note name.now) }
+{
+    if is_text(name, b"CHROOT") {
+        b"/c[z-a],"
+    } else if is_text(name, b"NOTBEFORE") || is_text(name, b"NOTAFTER") {
+        b"/t[z-a],"
+    } else {
+        b""
+    }
+}
+
+// Returns what stands in place of a form that begins at an offset of a text.
+fn stand_in(form: Unsupported, text: &[u8], start: usize) -> &'static [u8]
+    requires { start ≤ length text.now }
+    ensures { result.now ≡ spec.stand_in form text.now start }
 {
     match form {
-        Unsupported::CommandOption => {
-            let mut blanks = Vec::new(alloc);
-            blanks.resize(len, b' ')?;
-            text.append(Seq::from_vec(blanks))
-        }
-        Unsupported::List => text.extend_from_slice(NO_PATH),
-        _ => Ok(()),
+        Unsupported::CommandOption => option_text(name_at(text, start)),
+        Unsupported::List => NO_PATH,
+        Unsupported::Digest => b"/d[z-a],",
+        _ => b"",
     }
+}
+
+// Appends a text, with blanks behind it up to a length.
+fn push_padded(alloc: Global, len: usize, put: &[u8], text: &mut Seq<u8>) -> Result<(), AllocError>
+    ensures { OnOk result (text.new ≡ text.old ++ spec.padded len put.now) }
+{
+    let mut blanks = Vec::new(alloc);
+    blanks.resize(len.saturating_sub(put.len()), b' ')?;
+    text.extend_from_slice(put)?;
+    text.append(Seq::from_vec(blanks))
 }
 
 /// Returns the text of a command as a policy has it: `list` for the path that stands in its place.
@@ -143,24 +166,20 @@ fn behind(alloc: Global, line: &Line, mask: &Mask) -> Result<Line, AllocError>
 {
     let bytes = line.text.as_slice();
     let mut text = Seq::from_slice(alloc, &bytes[..mask.start])?;
-    push_replacement(
-        alloc,
-        mask.form,
-        mask.end.saturating_sub(mask.start),
-        &mut text,
-    )?;
+    let put = stand_in(mask.form, bytes, mask.start);
+    push_padded(alloc, mask.end.saturating_sub(mask.start), put, &mut text)?;
     text.extend_from_slice(from(bytes, mask.end))?;
     Ok(with_text(alloc, line, text))
 }
 
 // Returns a line behind its masks, at most so many, one after another. Returns `AllocError` if allocation fails.
-fn behind_masks(alloc: Global, most: u32, line: Line) -> Result<Line, AllocError>
-    ensures { IfOk result (λ masked. IsBehind most line masked) }
+fn behind_masks(alloc: Global, noted: bool, most: u32, line: Line) -> Result<Line, AllocError>
+    ensures { IfOk result (λ masked. IsBehind noted most line masked) }
 {
     let mut line = line;
     let mut left = most;
     while left > 0 {
-        let Some(mask) = mask_of(alloc, &line)? else {
+        let Some(mask) = mask_of(alloc, noted, &line)? else {
             return Ok(line);
         };
         line = behind(alloc, &line, &mask)?;
@@ -169,14 +188,15 @@ fn behind_masks(alloc: Global, most: u32, line: Line) -> Result<Line, AllocError
     Ok(line)
 }
 
-/// Returns a line behind all its masks, or `None` if it has none. Returns `AllocError` if allocation fails.
-pub fn mask_line(alloc: Global, line: &Line) -> Result<Option<Line>, AllocError>
-    ensures { IfOk result (λ found. MatchOption found (IsUnmasked line.now)
-        (λ masked. IsMasked line.now masked)) }
+/// Returns a line behind all its masks, or `None` if it has none, with the forms that are noted and not judged or without
+/// them. Returns `AllocError` if allocation fails.
+pub fn mask_line(alloc: Global, noted: bool, line: &Line) -> Result<Option<Line>, AllocError>
+    ensures { IfOk result (λ found. MatchOption found (IsUnmasked noted line.now)
+        (λ masked. IsMasked noted line.now masked)) }
 {
-    let Some(mask) = mask_of(alloc, line)? else {
+    let Some(mask) = mask_of(alloc, noted, line)? else {
         return Ok(None);
     };
     let masked = behind(alloc, line, &mask)?;
-    Ok(Some(behind_masks(alloc, MOST_MASKS, masked)?))
+    Ok(Some(behind_masks(alloc, noted, MOST_MASKS, masked)?))
 }

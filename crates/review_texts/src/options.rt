@@ -16,6 +16,20 @@ fn is_exact_option(name: &[u8]) -> bool
         || is_text(name, b"TYPE")
 }
 
+// Whether an option says below which root a command is, or when it may be run.
+fn is_noted_option(name: &[u8]) -> bool
+    ensures { result ≡ spec.is_noted_option name.now }
+{
+    is_text(name, b"CHROOT") || is_text(name, b"NOTBEFORE") || is_text(name, b"NOTAFTER")
+}
+
+// Whether an option is masked, with those that are noted or without them.
+fn is_option(noted: bool, name: &[u8]) -> bool
+    ensures { result ≡ spec.is_option noted name.now }
+{
+    is_exact_option(name) || (noted && is_noted_option(name))
+}
+
 // Whether a byte may stand in a value.
 fn is_value_byte(byte: u8) -> bool
     ensures { result ≡ spec.is_value_byte byte }
@@ -29,7 +43,7 @@ fn is_value_byte(byte: u8) -> bool
         || byte == b'\\')
 }
 
-// Whether CWD takes a value.
+// Whether CWD and CHROOT take a value.
 fn is_directory(value: &[u8]) -> bool
     ensures { result ≡ spec.is_directory value.now }
 {
@@ -82,8 +96,23 @@ fn is_time(value: &[u8]) -> bool
     !value.is_empty() && is_time_in(b"dhms", value)
 }
 
-// Whether a byte is a lower-case letter.
-fn is_lower(byte: u8) -> bool
+// Whether a value is a date of this many digits, and then nothing or `Z`.
+fn is_date_of(count: usize, value: &[u8]) -> bool
+    ensures { result ≡ spec.is_date_of count value.now }
+{
+    digit_count(value) == count && (value.len() == count || is_text(from(value, count), b"Z"))
+}
+
+// Whether NOTBEFORE and NOTAFTER take a value.
+fn is_date(value: &[u8]) -> bool
+    ensures { result ≡ spec.is_date value.now }
+{
+    b'2' <= peek(value, 0)
+        && (is_date_of(10, value) || is_date_of(12, value) || is_date_of(14, value))
+}
+
+/// Whether a byte is a lower-case letter.
+pub(crate) fn is_lower(byte: u8) -> bool
     ensures { result ≡ spec.is_lower byte }
 {
     b'a' <= byte && byte <= b'z'
@@ -111,17 +140,19 @@ fn is_plain_value(value: &[u8]) -> bool
 fn takes(option: &[u8], value: &[u8]) -> bool
     ensures { result ≡ spec.takes option.now value.now }
 {
-    if is_text(option, b"CWD") {
+    if is_text(option, b"CWD") || is_text(option, b"CHROOT") {
         is_directory(value)
     } else if is_text(option, b"TIMEOUT") {
         is_time(value)
+    } else if is_text(option, b"NOTBEFORE") || is_text(option, b"NOTAFTER") {
+        is_date(value)
     } else {
         is_plain_value(value)
     }
 }
 
-// Whether a byte may stand in a name.
-fn is_name_byte(byte: u8) -> bool
+/// Whether a byte may stand in a name.
+pub(crate) fn is_name_byte(byte: u8) -> bool
     ensures { result ≡ words.is_name_byte byte }
 {
     byte.is_ascii_uppercase() || byte.is_ascii_digit() || byte == b'_'
@@ -135,9 +166,9 @@ fn name_len(text: &[u8]) -> usize
     text.iter().take_while(|b| is_name_byte(**b)).count()
 }
 
-// Returns the name at an offset: upper-case letters, digits and underscores.
+/// Returns the name at an offset: upper-case letters, digits and underscores.
 #[tactic(auto, using(crate::proofs::Fronts::take_front))]
-fn name_at(text: &[u8], at: usize) -> &[u8]
+pub(crate) fn name_at(text: &[u8], at: usize) -> &[u8]
     requires { at ≤ length text.now }
     ensures name { result.now ≡ spec.name_at text.now at }
     ensures within { at + length result.now ≤ length text.now }
@@ -204,12 +235,12 @@ pub(crate) fn option_end(text: &[u8], at: usize) -> usize
 /// Whether an option is spelled at an offset, with a blank after it, and no runas behind that. Looks first whether a name
 /// begins there, so that each one is read once.
 #[tactic(auto, unfolding(crate::specs::Options::spells_option))]
-pub(crate) fn spells_option(text: &[u8], at: usize) -> bool
+pub(crate) fn spells_option(noted: bool, text: &[u8], at: usize) -> bool
     requires { at ≤ length text.now }
-    ensures { result ≡ spec.spells_option text.now at }
+    ensures { result ≡ spec.spells_option noted text.now at }
 {
     !is_name_byte(peek(text, at.saturating_sub(1)))
-        && is_exact_option(name_at(text, at))
+        && is_option(noted, name_at(text, at))
         && peek(text, equals_of(text, at)) == b'='
         && takes(name_at(text, at), value_at(text, value_of(text, at)))
         && is_blank(peek(text, option_end(text, at)))

@@ -6,6 +6,7 @@ ghost use Rattle.review_texts.specs.Places as spec;
 ghost use Rattle.review_texts.specs.Masks.{Stands};
 
 use crate::bytes::{begins_defaults, from, is_blank, peek, skip};
+use crate::digests::{digest_end, spells_digest};
 use crate::options::{name_end, option_end, spells_option};
 use crate::reading::entry_in;
 use std::alloc::{AllocError, Global};
@@ -80,6 +81,16 @@ fn begins_at(at: usize, entry: &EntryBody) -> bool
 {
     match last_command(entry) {
         Some(member) => member.token.start as usize == at,
+        None => false,
+    }
+}
+
+// Whether that member has no `!` before it, and begins at an offset.
+fn is_first_at(at: usize, entry: &EntryBody) -> bool
+    ensures { result ≡ spec.is_first_at at (spec.last_command entry.now) }
+{
+    match last_command(entry) {
+        Some(member) => member.bangs == 0 && member.token.start as usize == at,
         None => false,
     }
 }
@@ -164,15 +175,29 @@ fn reads_command(alloc: Global, line: &Line, at: usize) -> Result<bool, AllocErr
     }
 }
 
+// The same of a line whose last command has no `!` before it.
+fn reads_first(alloc: Global, line: &Line, at: usize) -> Result<bool, AllocError>
+    requires { length line.now.text ≤ TEXT_LIMIT }
+    ensures yes { IfOk result (λ found. IsTrue found → (entry : AnEntry)
+        × spec.IsEntryIn line.now entry × (spec.is_first_at at (spec.last_command entry) ≡ true)) }
+    ensures only { IfOk result (λ found. (entry : AnEntry) → spec.IsEntryIn line.now entry
+        → spec.is_first_at at (spec.last_command entry) ≡ true → IsTrue found) }
+{
+    match entry_in(alloc, line)? {
+        Some(entry) => Ok(is_first_at(at, &entry)),
+        None => Ok(false),
+    }
+}
+
 // Whether an option stands at an offset. Returns `AllocError` if allocation fails.
-fn option_stands(alloc: Global, line: &Line, at: usize) -> Result<bool, AllocError>
+fn option_stands(alloc: Global, noted: bool, line: &Line, at: usize) -> Result<bool, AllocError>
     requires within { at ≤ length line.now.text }
     requires short { length line.now.text ≤ TEXT_LIMIT }
-    ensures yes { IfOk result (λ found. IsTrue found → spec.StandsOption line.now at) }
-    ensures only { IfOk result (λ found. spec.StandsOption line.now at → IsTrue found) }
+    ensures yes { IfOk result (λ found. IsTrue found → spec.StandsOption noted line.now at) }
+    ensures only { IfOk result (λ found. spec.StandsOption noted line.now at → IsTrue found) }
 {
     let text = line.text.as_slice();
-    if !spells_option(text, at) {
+    if !spells_option(noted, text, at) {
         return Ok(false);
     }
     let front = line_before(alloc, line, name_end(text, at))?;
@@ -193,10 +218,26 @@ fn list_stands(alloc: Global, line: &Line, at: usize) -> Result<bool, AllocError
     reads_command(alloc, &front, at)
 }
 
+// Whether a digest stands at an offset. Returns `AllocError` if allocation fails.
+fn digest_stands(alloc: Global, line: &Line, at: usize) -> Result<bool, AllocError>
+    requires within { at ≤ length line.now.text }
+    requires short { length line.now.text + 8 ≤ TEXT_LIMIT }
+    ensures yes { IfOk result (λ found. IsTrue found → spec.StandsDigest line.now at) }
+    ensures only { IfOk result (λ found. spec.StandsDigest line.now at → IsTrue found) }
+    ensures long { IfOk result (λ found. IsTrue found → at + 7 ≤ length line.now.text) }
+{
+    if !spells_digest(line.text.as_slice(), at) {
+        return Ok(false);
+    }
+    let front = line_with_path(alloc, line, at)?;
+    reads_first(alloc, &front, at)
+}
+
 // Returns the offset up to which a form stands that begins at an offset, if it stands there. Returns `AllocError` if
 // allocation fails.
 pub(crate) fn stands(
     alloc: Global,
+    noted: bool,
     line: &Line,
     form: Unsupported,
     at: usize,
@@ -204,14 +245,17 @@ pub(crate) fn stands(
     requires within { at ≤ length line.now.text }
     requires short { length line.now.text + 8 ≤ TEXT_LIMIT }
     ensures { IfOk result (λ found. MatchOption found
-        ((end : ℕ) → Stands line.now form at end → ⊥)
-        (λ end. Stands line.now form at end)) }
+        ((end : ℕ) → Stands noted line.now form at end → ⊥)
+        (λ end. Stands noted line.now form at end)) }
 {
     match form {
-        Unsupported::CommandOption if option_stands(alloc, line, at)? => {
+        Unsupported::CommandOption if option_stands(alloc, noted, line, at)? => {
             Ok(Some(option_end(line.text.as_slice(), at)))
         }
         Unsupported::List if list_stands(alloc, line, at)? => Ok(Some(at + 4)),
+        Unsupported::Digest if noted && digest_stands(alloc, line, at)? => {
+            Ok(Some(digest_end(line.text.as_slice(), at)))
+        }
         _ => Ok(None),
     }
 }

@@ -175,10 +175,15 @@ fn plain_block(alloc: Global, line: &Line, bytes: &[u8]) -> Result<Option<Seq<u8
 }
 
 // Returns what the bytes of a line become, if they change.
-fn block_of(alloc: Global, line: &Line, bytes: &[u8]) -> Result<Option<Seq<u8>>, AllocError>
-    ensures { IfOk result (λ block. IsBlock line.now bytes.now (unwrap_or block bytes.now)) }
+fn block_of(
+    alloc: Global,
+    noted: bool,
+    line: &Line,
+    bytes: &[u8],
+) -> Result<Option<Seq<u8>>, AllocError>
+    ensures { IfOk result (λ block. IsBlock noted line.now bytes.now (unwrap_or block bytes.now)) }
 {
-    match mask_line(alloc, line)? {
+    match mask_line(alloc, noted, line)? {
         Some(masked) => block_by(alloc, line, masked, bytes),
         None => plain_block(alloc, line, bytes),
     }
@@ -187,29 +192,35 @@ fn block_of(alloc: Global, line: &Line, bytes: &[u8]) -> Result<Option<Seq<u8>>,
 // Appends what the bytes of a line become.
 fn push_block(
     alloc: Global,
+    noted: bool,
     line: &Line,
     bytes: &[u8],
     masked: &mut Seq<u8>,
 ) -> Result<(), AllocError>
-    ensures { OnOk result ((block : List ℕ) × IsBlock line.now bytes.now block
+    ensures { OnOk result ((block : List ℕ) × IsBlock noted line.now bytes.now block
         × (masked.new ≡ masked.old ++ block)) }
 {
-    match block_of(alloc, line, bytes)? {
+    match block_of(alloc, noted, line, bytes)? {
         Some(block) => masked.append(block),
         None => masked.extend_from_slice(bytes),
     }
 }
 
 // Returns what a text becomes that begins with logical lines.
-fn mask_lines(alloc: Global, lines: &[Line], text: &[u8]) -> Result<Seq<u8>, AllocError>
-    ensures { IfOk result (λ masked. AreBlocks lines.now text.now masked) }
+fn mask_lines(
+    alloc: Global,
+    noted: bool,
+    lines: &[Line],
+    text: &[u8],
+) -> Result<Seq<u8>, AllocError>
+    ensures { IfOk result (λ masked. AreBlocks noted lines.now text.now masked) }
 {
     let mut masked = Seq::new(alloc);
     let mut rest = text;
     let mut left = lines;
     while let Some((line, after)) = left.split_first() {
         let (bytes, behind) = cut_written(line, rest);
-        push_block(alloc, line, bytes, &mut masked)?;
+        push_block(alloc, noted, line, bytes, &mut masked)?;
         rest = behind;
         left = after;
     }
@@ -218,22 +229,23 @@ fn mask_lines(alloc: Global, lines: &[Line], text: &[u8]) -> Result<Seq<u8>, All
 }
 
 // Returns the masked text of a text in which one of the words stands.
-fn mask_words(alloc: Global, text: &[u8]) -> Result<Seq<u8>, AllocError>
-    ensures { IfOk result (λ masked. IsTextBy (lines_of 0 text.now) text.now masked) }
+fn mask_words(alloc: Global, noted: bool, text: &[u8]) -> Result<Seq<u8>, AllocError>
+    ensures { IfOk result (λ masked. IsTextBy noted (lines_of 0 text.now) text.now masked) }
 {
     match lines(alloc, 0, text) {
-        Ok(lines) => mask_lines(alloc, &lines, text),
+        Ok(lines) => mask_lines(alloc, noted, &lines, text),
         Err(TextFault::Memory) => Err(AllocError),
         Err(_) => Seq::from_slice(alloc, text),
     }
 }
 
-/// Returns the masked text of a file. Returns `AllocError` if allocation fails.
-pub fn mask_text(alloc: Global, text: Seq<u8>) -> Result<Seq<u8>, AllocError>
-    ensures { IfOk result (λ masked. IsMaskedText text masked) }
+/// Returns the masked text of a file, with masks for the forms that are noted and not judged or without them. Returns
+/// `AllocError` if allocation fails.
+pub fn mask_text(alloc: Global, noted: bool, text: Seq<u8>) -> Result<Seq<u8>, AllocError>
+    ensures { IfOk result (λ masked. IsMaskedText noted text masked) }
 {
     if !has_word(text.as_slice()) {
         return Ok(text);
     }
-    mask_words(alloc, text.as_slice())
+    mask_words(alloc, noted, text.as_slice())
 }

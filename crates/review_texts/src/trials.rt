@@ -8,7 +8,7 @@ use sudo_text::Seq;
 // Whether the masked text of each text is the other.
 fn are_masked(alloc: Global, rows: &[(&str, &str)]) -> Result<bool, AllocError> {
     for (text, wanted) in rows {
-        let masked = mask_text(alloc, Seq::from_slice(alloc, text.as_bytes())?)?;
+        let masked = mask_text(alloc, true, Seq::from_slice(alloc, text.as_bytes())?)?;
         if masked.as_slice() != wanted.as_bytes() {
             return Ok(false);
         }
@@ -19,7 +19,7 @@ fn are_masked(alloc: Global, rows: &[(&str, &str)]) -> Result<bool, AllocError> 
 // Whether each text stays as it is.
 fn are_kept(alloc: Global, texts: &[&str]) -> Result<bool, AllocError> {
     for text in texts {
-        if mask_text(alloc, Seq::from_slice(alloc, text.as_bytes())?)?.as_slice()
+        if mask_text(alloc, true, Seq::from_slice(alloc, text.as_bytes())?)?.as_slice()
             != text.as_bytes()
         {
             return Ok(false);
@@ -61,6 +61,113 @@ fn options_become_blanks(rt: HostRuntime) -> Result<(), Fail> {
         ),
     ];
     assert!(rt; are_masked(rt.alloc(), &rows)?);
+    Ok(())
+}
+
+// A digest of 28 bytes, and one of 32, in hexadecimal digits and in base64.
+const SHA224: &str = "sha224:d14a028c2a3a2bc9476102bb288234c415a2b01f828ea62ac5b3e42f";
+
+const SHA256: &str = "sha256:47DEQpj8HBSa+/TImW+5JCeuQeRkm5NMpJWZG3hSuFU=";
+
+#[test]
+fn roots_and_times_become_notes(rt: HostRuntime) -> Result<(), Fail> {
+    let rows = [
+        (
+            "u ALL = CHROOT=/ /b, CHROOT = /srv/x NOPASSWD: /c",
+            "u ALL = /c[z-a], /b, /c[z-a],        NOPASSWD: /c",
+        ),
+        (
+            "u ALL = (bob) CHROOT=* CWD=/x /b: web = CHROOT=~bob ALL",
+            "u ALL = (bob) /c[z-a],        /b: web = /c[z-a],    ALL",
+        ),
+        (
+            "u ALL = NOTBEFORE=20260101000000Z NOTAFTER=2027010100 !/b, /c",
+            "u ALL = /t[z-a],                  /t[z-a],            !/b, /c",
+        ),
+    ];
+    assert!(rt; are_masked(rt.alloc(), &rows)?);
+    Ok(())
+}
+
+// Whether the digests in a text become notes, each as long as it was with the comma that follows it.
+fn has_noted_digests(
+    alloc: Global,
+    front: &str,
+    digests: &[&str],
+    rest: &str,
+) -> Result<bool, AllocError> {
+    let mut text = Seq::from_slice(alloc, front.as_bytes())?;
+    let mut wanted = Seq::from_slice(alloc, front.as_bytes())?;
+    for (number, digest) in digests.iter().enumerate() {
+        if number > 0 {
+            text.extend_from_slice(b", ")?;
+            wanted.extend_from_slice(b"  ")?;
+        }
+        text.extend_from_slice(digest.as_bytes())?;
+        wanted.extend_from_slice(b"/d[z-a],")?;
+        for _at in 8..digest.len() {
+            wanted.push(b' ')?;
+        }
+    }
+    text.extend_from_slice(rest.as_bytes())?;
+    wanted.extend_from_slice(rest.as_bytes())?;
+    Ok(mask_text(alloc, true, text)?.as_slice() == wanted.as_slice())
+}
+
+#[test]
+fn digests_become_notes(rt: HostRuntime) -> Result<(), Fail> {
+    let alloc = rt.alloc();
+    assert!(rt; has_noted_digests(alloc, "u ALL = ", &[SHA224], " /b -x\n")?);
+    assert!(rt; has_noted_digests(alloc, "u ALL = (bob) NOPASSWD: ", &[SHA256], " !/b, /c")?);
+    assert!(rt;
+        has_noted_digests(
+            alloc,
+            "Cmnd_Alias C = /a, ",
+            &[SHA256, SHA224],
+            " ALL : D = /c"
+        )?
+    );
+    assert!(rt;
+        has_noted_digests(
+            alloc,
+            "u ALL = ",
+            &[SHA224, SHA256, SHA224],
+            "\tsudoedit /b"
+        )?
+    );
+    Ok(())
+}
+
+#[test]
+fn other_digests_stay(rt: HostRuntime) -> Result<(), Fail> {
+    let alloc = rt.alloc();
+    let rows = [
+        ("u ALL = !", " /b"),
+        ("u ALL = ", ", /b"),
+        ("u ALL = ", " NOPASSWD: /b"),
+        ("u ALL = ", " (bob) /b"),
+        ("u ALL = ", " CMDS"),
+        ("u ALL = ", ""),
+        ("u ALL = ", "0 /b"),
+        ("Defaults!", " /b noexec"),
+    ];
+    for (front, rest) in rows {
+        let mut text = Seq::from_slice(alloc, front.as_bytes())?;
+        text.extend_from_slice(SHA224.as_bytes())?;
+        text.extend_from_slice(rest.as_bytes())?;
+        let masked = mask_text(alloc, true, text.try_clone()?)?;
+        assert!(rt; masked.as_slice() == text.as_slice());
+    }
+    Ok(())
+}
+
+#[test]
+fn notes_are_refused_where_none_is_wanted(rt: HostRuntime) -> Result<(), Fail> {
+    let alloc = rt.alloc();
+    for text in ["u ALL = CHROOT=/x /b", "u ALL = NOTAFTER=2026010100Z /b"] {
+        let masked = mask_text(alloc, false, Seq::from_slice(alloc, text.as_bytes())?)?;
+        assert!(rt; masked.as_slice() == text.as_bytes());
+    }
     Ok(())
 }
 
@@ -128,7 +235,7 @@ fn faults_stay_at_their_columns(rt: HostRuntime) -> Result<(), Fail> {
     let texts = [
         "u ALL = list, foo",
         "u ALL = CWD=/x /b, \\\n foo",
-        "u ALL = CWD=/x /b, CHROOT=/c /d, \\\n /e",
+        "u ALL = CWD=/x /b, PRIVS=p /d, \\\n /e",
     ];
     assert!(rt; are_kept(rt.alloc(), &texts)?);
     Ok(())
@@ -194,7 +301,11 @@ fn what_sudo_refuses_stays(rt: HostRuntime) -> Result<(), Fail> {
         "Cmnd_Alias X = CWD=/x /b",
         "u ALL = list x",
         "u ALL = \"list\"",
-        "u ALL = CHROOT=/x CWD=/y /b",
+        "u ALL = CHROOT=x CWD=/y /b",
+        "u ALL = NOTBEFORE=2026 /b",
+        "u ALL = NOTAFTER=20260101000000+01 /b",
+        "u ALL = CHROOT=/x (root) /b",
+        "Cmnd_Alias X = CHROOT=/x /b",
         "u ALL = PRIVS=p ALL",
         "foo ALL = CWD=~ron /bin/ls \\\n",
         "u ALL = CWD=/x\\\n/y /b",

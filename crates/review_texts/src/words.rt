@@ -11,9 +11,11 @@ fn begin_word(first: u8, rest: &[u8]) -> bool
 {
     match first {
         b'l' => peek(rest, 0) == b'i',
-        b'C' => peek(rest, 0) == b'W',
+        b'C' => peek(rest, 0) == b'W' || peek(rest, 0) == b'H',
         b'T' => peek(rest, 0) == b'I' || peek(rest, 0) == b'Y',
         b'R' => peek(rest, 0) == b'O',
+        b'N' => peek(rest, 0) == b'O',
+        b's' => peek(rest, 0) == b'h',
         b'D' => peek(rest, 0) == b'e',
         _ => false,
     }
@@ -28,6 +30,13 @@ fn begins_word(text: &[u8]) -> bool
         || text.starts_with(b"TIMEOUT")
         || text.starts_with(b"ROLE")
         || text.starts_with(b"TYPE")
+        || text.starts_with(b"CHROOT")
+        || text.starts_with(b"NOTBEFORE")
+        || text.starts_with(b"NOTAFTER")
+        || text.starts_with(b"sha224:")
+        || text.starts_with(b"sha256:")
+        || text.starts_with(b"sha384:")
+        || text.starts_with(b"sha512:")
         || text.starts_with(b"Defaults\\")
 }
 

@@ -4,5 +4,5 @@ use Rattle.review_texts.proofs.masks.first_stand.Goals as goal
 
 pub returns : goal.returns
 returns c = λ start end stands.
-    let within = stands_within c.args.line.now c.args.form start end stands in
+    let within = stands_within c.args.noted c.args.line.now c.args.form start end stands in
     c.loop-at.invariant start end (omega arith) stands
