@@ -28,12 +28,16 @@ CONTINUED = re.compile(r"(?<!\\)(\\\\)*\\[ \t]*\r?$")
 COMMENT = re.compile(r"[ \t]*#(?!\d|include(dir)?[ \t])")
 
 
+COLUMNS = ("verdict", "place", "tags", "depends")
+
+
 class Answer(NamedTuple):
-    """A verdict, and the place and the tags of the grant that decided."""
+    """A verdict, the place and the tags of the grant that decided, and what is noted that it depends on."""
 
     verdict: str
     place: str = ""
     tags: str = ""
+    depends: str = ""
 
     def __str__(self) -> str:
         return " ".join(filter(None, self))
@@ -136,7 +140,7 @@ class Asker:
             raise _wrong(review, done, self._text())
         rows = csv.DictReader(done.stdout.decode(ENCODING).splitlines())
         # The standard error is read with the report: the line of the cautions has no verdict.
-        return [Answer(row["verdict"], row["place"], row["tags"]) for row in rows if row["verdict"] is not None]
+        return [Answer(*map(row.__getitem__, COLUMNS)) for row in rows if row["verdict"] is not None]
 
     def peer_verdict(self, case: Case, asked: Request) -> Answer | None:
         """Returns the peer's answer to a request, `None` if it does not read the whole policy."""

@@ -37,6 +37,7 @@ MOST_ASKED = 5
 BY_CHANCE = 8
 # The machines of this class have users in lower case: a capital letter of the policy is none of theirs.
 OF_LETTERS = "case"
+DEPENDS = "depends"
 
 
 class Programs(NamedTuple):
@@ -50,7 +51,8 @@ class Programs(NamedTuple):
 class Plain(NamedTuple):
     """What was found of policies without cautions.
 
-    Verdicts are counted by what does not hold of the request and the machine; the empty name is that all holds.
+    Verdicts are counted by what does not hold of the request and the machine; the empty name is that all holds. Those that
+    depend on what is not judged are not compared, and counted by what that is.
     """
 
     policies: int = 0
@@ -59,6 +61,7 @@ class Plain(NamedTuple):
     verdicts: Counter[str] = Counter()
     differing: Counter[str] = Counter()
     found: tuple[tuple[str, Difference], ...] = ()
+    depending: Counter[str] = Counter()
 
     def plus(self, more: "Plain") -> "Plain":
         """Returns what both found."""
@@ -69,6 +72,7 @@ class Plain(NamedTuple):
             self.verdicts + more.verdicts,
             self.differing + more.differing,
             self.found + more.found,
+            self.depending + more.depending,
         )
 
 
@@ -134,17 +138,20 @@ class Measure:
         return Both(alike(here[0]), alike(self.asker.peer_answer(case, case.request).answer))
 
     def plain(self, seed: str, forms: bool = False) -> Plain:
-        """Compares verdicts under a policy, with forms that sudo_review alone reads or without, if it has no cautions."""
+        """Compares verdicts under a policy, with forms that sudo_review alone reads or without, if it has no cautions.
+
+        Those that depend on what is not judged are counted alone."""
         case, requests = drawn_policy(seed, REQUESTS_A_POLICY)
         if forms:
             case = case._replace(text=with_forms(case.text, random.Random(seed)))
         self.asker.write(case)
         cautions = self.reviewer.cautions()
-        if cautions != ():
+        if cautions is None or any(caution.name != DEPENDS for caution in cautions):
             return Plain(policies=0 if cautions is None else 1)
         here = (self.asker.report(self.reviewer.program, requests) if forms else self.asker.audit(requests)) or ()
         verdicts: Counter[str] = Counter()
         differing: Counter[str] = Counter()
+        depending: Counter[str] = Counter()
         found: list[tuple[str, Difference]] = []
         for asked, one in zip(requests, here):
             told = case._replace(request=asked)
@@ -152,11 +159,14 @@ class Measure:
             if not there.is_whole:
                 return Plain(policies=1, without=1, unread=1)
             name, both = unmet(told), Both(alike(one), alike(there.answer))
+            if one.depends:
+                depending[one.depends] += 1
+                continue
             verdicts[name] += 1
             if both.differ():
                 differing[name] += 1
                 found += [] if name else [("", Difference(seed, told, both)) if forms else self._unnamed(seed, told, both)]
-        return Plain(1, 1, 0, verdicts, differing, tuple(found))
+        return Plain(1, 1, 0, verdicts, differing, tuple(found), depending)
 
     def _unnamed(self, seed: str, case: Case, both: Both) -> tuple[str, Difference]:
         """Returns a difference that no caution names, with the row of the profile that explains it if one does."""

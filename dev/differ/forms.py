@@ -1,5 +1,7 @@
 """Puts forms into a policy that sudo_audit refuses and sudo_review reads."""
 
+import base64
+import hashlib
 import random
 from collections.abc import Iterator, Sequence
 
@@ -16,6 +18,17 @@ OPTIONS = (
     "TIMEOUT=7d4h",
     "TIMEOUT = 10m30s",
 )
+# What is noted and not judged: in the past and in the future, where there is such a folder and where there is none.
+NOTED = (
+    "CHROOT=/",
+    "CHROOT=/gone",
+    "CHROOT=*",
+    "NOTBEFORE=20200101000000Z",
+    "NOTBEFORE = 2099010100",
+    "NOTAFTER=20990101000000Z",
+    "NOTAFTER=202001010000",
+)
+DIGESTS = ("sha224", "sha256", "sha384", "sha512")
 TORN = ("Defaults\\\n    insults\n", "Defaults\\\n  insults, \\\n  lecture\n")
 BLANK = ("blank", "join")
 
@@ -26,10 +39,11 @@ def with_options(text: str, chosen: random.Random) -> str:
 
 
 def with_forms(text: str, chosen: random.Random) -> str:
-    """Returns a policy with options before some of its commands, `list` for some, and a torn Defaults line or none."""
+    """Returns a policy with options and digests before some of its commands, `list` for some, and a torn Defaults line or none."""
     pieces = pieces_of(text)
-    texts = (_or_list(pieces, at, chosen) for at in range(len(pieces)))
-    changed = (_with_options(said, begins, chosen) for said, (_, begins) in zip(texts, _beginnings(pieces)))
+    texts = (_with_digest(_or_list(pieces, at, chosen), pieces, at, chosen) for at in range(len(pieces)))
+    known = (*OPTIONS, *NOTED)
+    changed = (_with_options(said, begins, chosen, known) for said, (_, begins) in zip(texts, _beginnings(pieces)))
     torn = chosen.choice(TORN) if chosen.random() < 0.1 else ""
     return torn + "".join(changed)
 
@@ -56,11 +70,36 @@ def _or_list(pieces: Sequence[Piece], at: int, chosen: random.Random) -> str:
     return "list" if is_command and chosen.random() < 0.1 else piece.text
 
 
-def _with_options(text: str, begins: bool, chosen: random.Random) -> str:
+def _with_digest(text: str, pieces: Sequence[Piece], at: int, chosen: random.Random) -> str:
+    """Returns the text of a piece, with one or two digests before some paths: of what stands there, or of something else."""
+    piece = pieces[at]
+    is_path = piece.role == "cmnd" and piece.kind == "path" and text == piece.text and text.startswith("/")
+    before = next((other for other in reversed(pieces[:at]) if other.kind not in BLANK), None)
+    is_signed = before is not None and before.kind == "mark" and before.text == "!"
+    is_defaults = next((other.text for other in reversed(pieces[:at]) if other.role == ""), "").startswith("Defaults")
+    if not is_path or is_signed or is_defaults or chosen.random() < 0.8:
+        return text
+    return ", ".join(_digest(text, chosen) for _ in range(chosen.choice((1, 1, 2)))) + " " + text
+
+
+def _digest(path: str, chosen: random.Random) -> str:
+    """Returns a digest: of the file at a path, if there is one, or of other bytes."""
+    try:
+        with open(path, "rb") as file:
+            content = file.read() if chosen.random() < 0.5 else b""
+    except (OSError, ValueError):
+        content = b""
+    name = chosen.choice(DIGESTS)
+    digest = hashlib.new(name, content)
+    value = digest.hexdigest() if chosen.random() < 0.5 else base64.b64encode(digest.digest()).decode()
+    return f"{name}:{value}"
+
+
+def _with_options(text: str, begins: bool, chosen: random.Random, known: Sequence[str] = OPTIONS) -> str:
     """Returns the text of a piece, with options before it if they may stand there, or none."""
     if not begins or chosen.random() < 0.5:
         return text
-    options = chosen.sample(OPTIONS, chosen.choice((1, 1, 1, 2)))
+    options = chosen.sample(known, chosen.choice((1, 1, 1, 2)))
     names = [option.partition("=")[0].strip() for option in options]
     return " ".join([*(options if len({*names}) == len(names) else options[:1]), text])
 

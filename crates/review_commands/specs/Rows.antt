@@ -4,8 +4,10 @@ use Rattle.audit_collect.specs.declared.arrival.Answer.{Answer}
 use Rattle.audit_collect.specs.declared.report.Report.{Report}
 use Rattle.audit_collect.specs.declared.report.SenderReport.{SenderReport}
 use Rattle.audit_files.specs.Report.{line, verdict_place, verdict_tags, verdict_word}
+use Rattle.sudo_grammar.specs.declared.policy.Policy.{Policy}
 use Rattle.sudo_match.specs.declared.request.Request.{Request}
 use Rattle.sudo_match.specs.declared.request.Verdict.{Verdict}
+use Rattle.review_grants.specs.Depends.{verdict_depends}
 
 -- the first record: the names of the columns
 abbrev pub header : List (List ℕ)
@@ -20,19 +22,19 @@ asker_fields r = decimal r.number ∷ r.user ∷ r.host ∷ []
 abbrev pub asked_fields : Request → List (List ℕ)
 asked_fields r = unwrap_or r.runas_user [] ∷ unwrap_or r.runas_group [] ∷ r.command ∷ r.arguments ∷ []
 
--- the fields of a verdict; nothing is noted that it depends on
-abbrev pub verdict_fields : List (List ℕ) → Verdict → List (List ℕ)
-verdict_fields files v = verdict_word v ∷ verdict_place files v ∷ verdict_tags v ∷ [] ∷ []
+-- the fields of a verdict under a policy, with what it depends on
+abbrev pub verdict_fields : Policy → Verdict → List (List ℕ)
+verdict_fields p v = verdict_word v ∷ verdict_place p.files v ∷ verdict_tags v ∷ verdict_depends p v ∷ []
 
 -- the fields of an answer's record
-abbrev pub answer_fields : List (List ℕ) → List ℕ → Answer → List (List ℕ)
-answer_fields files sender a =
-    sender ∷ (asker_fields a.request ++ (asked_fields a.request ++ verdict_fields files a.verdict))
+abbrev pub answer_fields : Policy → List ℕ → Answer → List (List ℕ)
+answer_fields p sender a =
+    sender ∷ (asker_fields a.request ++ (asked_fields a.request ++ verdict_fields p a.verdict))
 
 -- one record for each answer of a sender, in order
-abbrev pub sender_text : List (List ℕ) → SenderReport → List ℕ
-sender_text files s = flat_map (λ a. line (answer_fields files s.name a)) s.answers
+abbrev pub sender_text : Policy → SenderReport → List ℕ
+sender_text p s = flat_map (λ a. line (answer_fields p s.name a)) s.answers
 
--- the header, and each sender's records, in the order of the roster; `files` are the files of the policy
-abbrev pub report_text : List (List ℕ) → Report → List ℕ
-report_text files r = line header ++ flat_map (sender_text files) r.senders
+-- the header, and each sender's records under a policy, in the order of the roster
+abbrev pub report_text : Policy → Report → List ℕ
+report_text p r = line header ++ flat_map (sender_text p) r.senders

@@ -27,7 +27,8 @@ use std::sync::Wait;
 use std::thread::Threads;
 
 // Answers the requests of the files that the words `NAME=PATH` name, under a policy, and returns the exit status.
-// `threads` is the runtime, if it can start threads.
+// `threads` is the runtime, if it can start threads. What is not judged is noted beside each answer; a table of rules has no
+// place for it, and refuses it.
 fn run_report<T: Threads + Wait + Sync>(
     rt: &HostRuntime,
     threads: &T,
@@ -41,7 +42,8 @@ fn run_report<T: Threads + Wait + Sync>(
     let alloc = rt.alloc();
     let mut out = Device::new(rt.stdout());
     let mut err = Device::new(rt.stderr());
-    let mut files = match policy_files(rt, paths.policy, true) {
+    let noted = form == Form::Requests;
+    let mut files = match policy_files(rt, paths.policy, noted) {
         Ok(files) => files,
         Err(refused) => return report_explained(alloc, PROGRAM, refused, &mut err),
     };

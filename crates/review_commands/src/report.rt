@@ -17,6 +17,7 @@ use crate::subject_rows::rules_text;
 use audit_collect::Report;
 use audit_commands::{ReportFault, Work, answer_requests};
 use audit_files::{Feed, Sink};
+use review_grants::NotedPlaces;
 use review_subjects::rule_counts;
 use run_base::{CheckedFiles, Files, PolicyFault, checked_files};
 use std::alloc::{AllocError, Global};
@@ -54,10 +55,15 @@ fn text_of(
 ) -> Result<Vec<u8>, AllocError>
     ensures { IfOk result (λ text. text.items ≡ text_in form policy.now report.now) }
 {
-    let files = policy.policy().files.as_slice();
     match form {
-        Form::Requests => report_text(alloc, report, files),
-        Form::Rules => rules_text(alloc, files, &rule_counts(alloc, policy, report)?),
+        Form::Requests => {
+            let noted = NotedPlaces::of(alloc, policy)?;
+            report_text(alloc, policy.policy(), &noted, report)
+        }
+        Form::Rules => {
+            let files = policy.policy().files.as_slice();
+            rules_text(alloc, files, &rule_counts(alloc, policy, report)?)
+        }
     }
 }
 

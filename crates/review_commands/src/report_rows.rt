@@ -2,6 +2,7 @@
 ghost use Rattle.std.specs.Prelude.{◌≡◌, ◌++◌, ◌∷◌, [], ℕ, List, IfOk, OnOk, unwrap_or};
 ghost use Rattle.csv.specs.Writing.{default_writer, field_text, fields_text};
 ghost use Rattle.audit_files.specs.Report.{line};
+ghost use Rattle.review_grants.specs.Depends.{IsNoted};
 ghost use Rattle.review_commands.specs.Rows.{answer_fields, asked_fields, asker_fields, header};
 ghost use Rattle.review_commands.specs.Rows.{report_text as text_of};
 ghost use Rattle.review_commands.specs.Rows.{sender_text, verdict_fields};
@@ -9,8 +10,10 @@ ghost use Rattle.review_commands.specs.Rows.{sender_text, verdict_fields};
 use audit_collect::{Answer, Report, SenderReport};
 use audit_files::{push_field, push_next_field, set_place, set_tags, verdict_word};
 use itoa::Buffer;
+use review_grants::NotedPlaces;
 use std::alloc::{AllocError, Global};
 use sudo_match::{Request, Verdict};
+use sudo_policy::Policy;
 use sudo_text::Seq;
 
 // Returns the bytes of a target, or no bytes where no target is asked for.
@@ -56,42 +59,46 @@ struct Scratch {
     tags: Vec<u8>,
 }
 
-// Appends the fields of a verdict, each after a comma.
+// Appends the fields of a verdict under a policy, whose notes these are, each after a comma.
 #[tactic(auto, unfolding(csv::specs::Writing::fields_text))]
 fn push_verdict(
     text: &mut Vec<u8>,
     scratch: &mut Scratch,
-    files: &[Seq<u8>],
+    policy: &Policy,
+    noted: &NotedPlaces,
     verdict: &Verdict,
 ) -> Result<(), AllocError>
+    requires { IsNoted policy.now noted.now }
     ensures text { OnOk result (text.new.items
-        ≡ text.old.items ++ fields_text default_writer (verdict_fields files.now verdict.now)) }
+        ≡ text.old.items ++ fields_text default_writer (verdict_fields policy.now verdict.now)) }
     ensures sender { OnOk result (scratch.new.sender.items ≡ scratch.old.sender.items) }
 {
-    set_place(&mut scratch.place, files, verdict)?;
+    set_place(&mut scratch.place, policy.files.as_slice(), verdict)?;
     set_tags(&mut scratch.tags, verdict)?;
     push_next_field(text, verdict_word(verdict))?;
     push_next_field(text, scratch.place.as_slice())?;
     push_next_field(text, scratch.tags.as_slice())?;
-    push_next_field(text, b"")
+    push_next_field(text, noted.verdict_depends(verdict))
 }
 
 // Appends the record of an answer of the sender whose field is in `scratch`.
 fn push_answer(
     text: &mut Vec<u8>,
     scratch: &mut Scratch,
-    files: &[Seq<u8>],
+    policy: &Policy,
+    noted: &NotedPlaces,
     answer: &Answer,
 ) -> Result<(), AllocError>
+    requires { IsNoted policy.now noted.now }
     ensures text { OnOk result ((sender : List ℕ)
         → scratch.old.sender.items ≡ field_text default_writer sender → text.new.items
-        ≡ text.old.items ++ line (answer_fields files.now sender answer.now)) }
+        ≡ text.old.items ++ line (answer_fields policy.now sender answer.now)) }
     ensures sender { OnOk result (scratch.new.sender.items ≡ scratch.old.sender.items) }
 {
     text.extend_from_slice(scratch.sender.as_slice())?;
     push_asker(text, &answer.request)?;
     push_asked(text, &answer.request)?;
-    push_verdict(text, scratch, files, &answer.verdict)?;
+    push_verdict(text, scratch, policy, noted, &answer.verdict)?;
     text.push(b'\n')?;
     Ok(())
 }
@@ -100,16 +107,18 @@ fn push_answer(
 fn push_sender(
     text: &mut Vec<u8>,
     scratch: &mut Scratch,
-    files: &[Seq<u8>],
+    policy: &Policy,
+    noted: &NotedPlaces,
     sender: &SenderReport,
 ) -> Result<(), AllocError>
+    requires { IsNoted policy.now noted.now }
     ensures { OnOk result (text.new.items
-        ≡ text.old.items ++ sender_text files.now sender.now) }
+        ≡ text.old.items ++ sender_text policy.now sender.now) }
 {
     scratch.sender.clear();
     push_field(&mut scratch.sender, sender.name.as_slice())?;
     for answer in sender.answers.as_slice() {
-        push_answer(text, scratch, files, answer)?;
+        push_answer(text, scratch, policy, noted, answer)?;
     }
     Ok(())
 }
@@ -126,18 +135,20 @@ fn push_header(text: &mut Vec<u8>) -> Result<(), AllocError>
     text.extend_from_slice(HEADER)
 }
 
-/// Returns the report as CSV, with the request beside each answer: the header `sender,number,user,host,runas_user,
+/// Returns the report of requests under a policy, whose notes these are, as CSV, with the request beside each answer: the header `sender,number,user,host,runas_user,
 /// runas_group,command,arguments,verdict,place,tags,depends`, then for each sender a record for each of its answers, in their
 /// order.
 ///
-/// `place` is `PATH:LINE` of the grant that decided, with the path at the place's number in `files`, and empty but for `allow`
-/// and `deny`; `tags` is empty but for `allow`; `depends` is empty. Returns `AllocError` if allocation failed.
+/// `place` is `PATH:LINE` of the grant that decided, and empty but for `allow` and `deny`; `tags` is empty but for `allow`;
+/// `depends` names what the grants at the place depend on. Returns `AllocError` if allocation failed.
 pub(crate) fn report_text(
     alloc: Global,
+    policy: &Policy,
+    noted: &NotedPlaces,
     report: &Report,
-    files: &[Seq<u8>],
 ) -> Result<Vec<u8>, AllocError>
-    ensures { IfOk result (λ text. text.items ≡ text_of files.now report.now) }
+    requires { IsNoted policy.now noted.now }
+    ensures { IfOk result (λ text. text.items ≡ text_of policy.now report.now) }
 {
     let mut text = Vec::new(alloc);
     let mut scratch = Scratch {
@@ -147,7 +158,7 @@ pub(crate) fn report_text(
     };
     push_header(&mut text)?;
     for sender in report.senders.as_slice() {
-        push_sender(&mut text, &mut scratch, files, sender)?;
+        push_sender(&mut text, &mut scratch, policy, noted, sender)?;
     }
     Ok(text)
 }

@@ -7,4 +7,4 @@ use Rattle.review_commands.proofs.report_rows.push_sender.Given as goal
 -- the records of the answers so far were written
 abbrev pub invariant-loop-answer : goal.invariant-loop-answer
 invariant-loop-answer l = (l.scratch.sender.items ≡ field_text default_writer l.sender.name)
-    × (l.text.items ≡ l.fn.text.items ++ flat_map (λ a. line (answer_fields l.files l.sender.name a)) (take l.answer-index l.answer-items))
+    × (l.text.items ≡ l.fn.text.items ++ flat_map (λ a. line (answer_fields l.policy l.sender.name a)) (take l.answer-index l.answer-items))

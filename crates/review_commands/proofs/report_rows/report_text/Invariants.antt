@@ -5,4 +5,4 @@ use Rattle.review_commands.proofs.report_rows.report_text.Given as goal
 
 -- the header and the records of the senders so far were written
 abbrev pub invariant-loop-sender : goal.invariant-loop-sender
-invariant-loop-sender l = l.text.items ≡ line header ++ flat_map (sender_text l.files) (take l.sender-index l.sender-items)
+invariant-loop-sender l = l.text.items ≡ line header ++ flat_map (sender_text l.policy) (take l.sender-index l.sender-items)
