@@ -1,5 +1,5 @@
 -- The table of grants, section by section, is the table of all grants.
-use Rattle.std.proofs.Common.{◌≡◌, ◌∙◌, ℕ, Bool, true, false, cond, ◌&&◌}
+use Rattle.std.proofs.Common.{◌≡◌, ◌∙◌, ℕ, Bool, true, false, cond, not, ◌&&◌, is_some}
 use Rattle.std.proofs.Common.{List, [], ◌∷◌, ◌++◌, ap, append_assoc, append-nil, filter, flat_map}
 use Rattle.std.proofs.Common.{◌+◌, ◌<◌, ◌≤◌, arith, codes, drop, get_or, length, map, refl, subst, sym, take, zip, Option}
 use Rattle.std.specs.List.{enumerate_from, list_all}
@@ -27,11 +27,13 @@ use Rattle.sudo_text.specs.declared.line.Place.{Place}
 use Rattle.sudo_verdict.specs.Grants.{Grant, entry_grants, grant_of, grants, place_grants, section_grants}
 use Rattle.sudo_verdict.specs.Tagged.{runas_at, tags_at}
 use Rattle.review_texts.specs.Masks.{as_written}
+use Rattle.review_texts.specs.Notes.{note_in}
 use Rattle.review_grants.proofs.ListSteps.{flat_map-next, take-whole}
 use Rattle.review_grants.specs.declared.in_force.InForce.{InForce as TheState}
 use Rattle.review_grants.specs.Body.Heads.{HoldsBehind, command_head, command_row, command_rows, grant_line, lines_of, place_rows}
-use Rattle.review_grants.specs.Body.Heads.{rows_on, rule_head, section_head, section_rows, separated}
-use Rattle.review_grants.specs.GrantRows.{hosts_text, is_asked_about, is_for_host, is_for_user, runas_text}
+use Rattle.review_grants.specs.Body.Heads.{member_row, row_end, rows_on, rule_head, section_head, section_rows, separated}
+use Rattle.review_grants.specs.Depends.{depends_at}
+use Rattle.review_grants.specs.GrantRows.{hosts_text, is_for_host, is_for_user, is_shown, runas_text}
 use Rattle.review_grants.specs.GrantRows.{grants_header, grants_text, joined, marked, marked_text, members_text, sign_text, users_text}
 
 and-no : (b : Bool) → (b && false) ≡ false
@@ -58,35 +60,37 @@ line_text : (first second : List ℕ) (rest : List (List ℕ))
 unfolding is_blank
 line_text first second rest = refl
 
-regrouped : (a b c d e f : List ℕ) → (((a ++ b) ++ c) ++ d) ++ (e ++ f) ≡ (a ++ (b ++ (c ++ (d ++ e)))) ++ f
-regrouped a b c d e f = simp append_assoc
+regrouped : (a b c d e f g : List ℕ) → (((a ++ b) ++ c) ++ d) ++ (e ++ (f ++ g)) ≡ (a ++ (b ++ (c ++ (d ++ (e ++ f))))) ++ g
+regrouped a b c d e f g = simp append_assoc
 
 module _ (p : Policy) (d : KnownRows) where
-  -- the record of a grant is that of its written-out command behind the fields of its lists and its runas
+  -- the record of a grant is that of its written-out command between the fields of its lists and its runas and the last ones
   row-of : (place : Place) (users : List Member) (s : Section) (i : ℕ) (w : Signed)
       → grant_line p d (grant_of place users s i w)
       ≡ command_row (command_head p (section_head p d (rule_head p d place users) s.hosts) s.commands i)
-      (tags_text (tags_at s.commands i)) w
+      (row_end (tags_text (tags_at s.commands i)) (depends_at p place)) w
   row-of place users s i w =
       let text : List (List ℕ) → List ℕ = fields_text default_writer in
       let u : List ℕ = users_text p d users in
       let h : List ℕ = hosts_text p d s.hosts in
       let r : List ℕ = runas_text p (runas_at s.commands i) in
-      let end : List (List ℕ) = sign_text w.negated ∷ as_written (atom_text w.atom) ∷ tags_text (tags_at s.commands i) ∷ [] ∷ [] in
-      let all : text (u ∷ h ∷ r ∷ end) ≡ text (u ∷ []) ++ (text (h ∷ []) ++ (text (r ∷ []) ++ text end)) =
-      fields_text-append (u ∷ []) (h ∷ r ∷ end)
-      ∙ ap (λ (t : List ℕ). text (u ∷ []) ++ t) (fields_text-append (h ∷ []) (r ∷ end)
-      ∙ ap (λ (t : List ℕ). text (h ∷ []) ++ t) (fields_text-append (r ∷ []) end)) in
-      line_text (place_text p.files place) u (h ∷ r ∷ end)
+      let own : List (List ℕ) = sign_text w.negated ∷ as_written (atom_text w.atom) ∷ [] in
+      let last : List (List ℕ) = tags_text (tags_at s.commands i) ∷ depends_at p place ∷ [] in
+      let all : text (u ∷ h ∷ r ∷ (own ++ last)) ≡ text (u ∷ []) ++ (text (h ∷ []) ++ (text (r ∷ []) ++ (text own ++ text last))) =
+      fields_text-append (u ∷ []) (h ∷ r ∷ (own ++ last))
+      ∙ ap (λ (t : List ℕ). text (u ∷ []) ++ t) (fields_text-append (h ∷ []) (r ∷ (own ++ last))
+      ∙ ap (λ (t : List ℕ). text (h ∷ []) ++ t) (fields_text-append (r ∷ []) (own ++ last)
+      ∙ ap (λ (t : List ℕ). text (r ∷ []) ++ t) (fields_text-append own last))) in
+      line_text (place_text p.files place) u (h ∷ r ∷ (own ++ last))
       ∙ ap (λ (t : List ℕ). (field_text default_writer (place_text p.files place) ++ t) ++ 10 ∷ []) all
       ∙ sym (regrouped (field_text default_writer (place_text p.files place)) (text (u ∷ [])) (text (h ∷ []))
-      (text (r ∷ [])) (text end) (10 ∷ []))
+      (text (r ∷ [])) (text own) (text last) (10 ∷ []))
 
   module _ (u : Option Person) (m : Option Machine) where
     lines-append : (xs ys : List Grant) → lines_of p d u m (xs ++ ys) ≡ lines_of p d u m xs ++ lines_of p d u m ys
     lines-append xs ys =
-        ap (flat_map (grant_line p d)) (filter-append (is_asked_about p u m) xs ys)
-        ∙ flat_map-append (grant_line p d) (filter (is_asked_about p u m) xs) (filter (is_asked_about p u m) ys)
+        ap (flat_map (grant_line p d)) (filter-append (is_shown p u m) xs ys)
+        ∙ flat_map-append (grant_line p d) (filter (is_shown p u m) xs) (filter (is_shown p u m) ys)
 
     pub lines-flat : {X : Type 0} (f : X → List Grant) (xs : List X)
         → lines_of p d u m (flat_map f xs) ≡ flat_map (λ x. lines_of p d u m (f x)) xs
@@ -97,24 +101,40 @@ module _ (p : Policy) (d : KnownRows) where
       abbrev lists_head : List ℕ
       lists_head = section_head p d (rule_head p d place users) s.hosts
 
+      abbrev last_fields : ℕ → List ℕ
+      last_fields i = row_end (tags_text (tags_at s.commands i)) (depends_at p place)
+
       -- the grants of one command, asked about
       asked-atoms : is_for_user p u users ≡ true → is_for_host p m s.hosts ≡ true → (i : ℕ) (ws : List Signed)
           → lines_of p d u m (map (grant_of place users s i) ws)
-          ≡ flat_map (command_row (command_head p lists_head s.commands i) (tags_text (tags_at s.commands i))) ws
+          ≡ flat_map (member_row (command_head p lists_head s.commands i) (last_fields i)) ws
       asked-atoms for on i [] = refl
-      asked-atoms for on i (w ∷ ws) =
-          rw (for, on) (ap (λ (t : List ℕ). grant_line p d (grant_of place users s i w) ++ t) (asked-atoms for on i ws)
-          ∙ ap (λ (t : List ℕ). t ++ flat_map (command_row (command_head p lists_head s.commands i) (tags_text (tags_at s.commands i))) ws)
-          (row-of place users s i w))
+      asked-atoms for on i (w ∷ ws) = rw (for, on) (go (is_some (note_in w.atom)) (asked-atoms for on i ws))
+        where
+          g : Grant
+          g = grant_of place users s i w
+
+          own : Signed → List ℕ
+          own = member_row (command_head p lists_head s.commands i) (last_fields i)
+
+          shown : List Grant
+          shown = filter (is_shown p u m) (map (grant_of place users s i) ws)
+
+          go : (b : Bool) → flat_map (grant_line p d) shown ≡ flat_map own ws
+              → flat_map (grant_line p d) (cond (not b) (g ∷ shown) shown)
+              ≡ cond b [] (command_row (command_head p lists_head s.commands i) (last_fields i) w) ++ flat_map own ws
+          go true rest = rest
+          go false rest = ap (λ (t : List ℕ). grant_line p d g ++ t) rest
+              ∙ ap (λ (t : List ℕ). t ++ flat_map own ws) (row-of place users s i w)
 
       asked-places : is_for_user p u users ≡ true → is_for_host p m s.hosts ≡ true → (cs : List (ℕ × CommandSpec))
-          → flat_map (λ c. lines_of p d u m (place_grants p place users s c)) cs ≡ flat_map (place_rows p lists_head s.commands) cs
+          → flat_map (λ c. lines_of p d u m (place_grants p place users s c)) cs ≡ flat_map (place_rows p lists_head (depends_at p place) s.commands) cs
       unfolding place_grants
       asked-places for on [] = refl
       asked-places for on ((i, c) ∷ cs) =
           ap (λ (t : List ℕ). t ++ flat_map (λ c. lines_of p d u m (place_grants p place users s c)) cs)
           (asked-atoms for on i (written_form kind.Cmnd p (c.command ∷ [])))
-          ∙ ap (λ (t : List ℕ). place_rows p lists_head s.commands (i, c) ++ t) (asked-places for on cs)
+          ∙ ap (λ (t : List ℕ). place_rows p lists_head (depends_at p place) s.commands (i, c) ++ t) (asked-places for on cs)
 
       other-atoms : is_for_host p m s.hosts ≡ false → (i : ℕ) (ws : List Signed)
           → lines_of p d u m (map (grant_of place users s i) ws) ≡ []
@@ -130,13 +150,13 @@ module _ (p : Policy) (d : KnownRows) where
 
       -- the records of a section of a rule that is for the user
       section-rows : is_for_user p u users ≡ true
-          → lines_of p d u m (section_grants p place users s) ≡ rows_on p d m (rule_head p d place users) s
+          → lines_of p d u m (section_grants p place users s) ≡ rows_on p d m (rule_head p d place users) (depends_at p place) s
       unfolding section_grants
       section-rows for = go (is_for_host p m s.hosts) refl
         where
           go : (b : Bool) → is_for_host p m s.hosts ≡ b
               → lines_of p d u m (flat_map (place_grants p place users s) (enumerate_from 0 s.commands))
-              ≡ rows_on p d m (rule_head p d place users) s
+              ≡ rows_on p d m (rule_head p d place users) (depends_at p place) s
           go true on = lines-flat (place_grants p place users s) (enumerate_from 0 s.commands)
               ∙ asked-places for on (enumerate_from 0 s.commands) ∙ rw on refl
           go false off = lines-flat (place_grants p place users s) (enumerate_from 0 s.commands)
@@ -161,15 +181,16 @@ module _ (p : Policy) (d : KnownRows) where
           lines-flat (place_grants p place users s) (enumerate_from 0 s.commands) ∙ skipped-places other (enumerate_from 0 s.commands)
 
     pub rule_rows : (place : Place) (users : List Member) → is_for_user p u users ≡ true → (ss : List Section)
-        → lines_of p d u m (flat_map (section_grants p place users) ss) ≡ flat_map (rows_on p d m (rule_head p d place users)) ss
+        → lines_of p d u m (flat_map (section_grants p place users) ss)
+        ≡ flat_map (rows_on p d m (rule_head p d place users) (depends_at p place)) ss
     rule_rows place users for ss = lines-flat (section_grants p place users) ss ∙ go ss
       where
         go : (ts : List Section) → flat_map (λ s. lines_of p d u m (section_grants p place users s)) ts
-            ≡ flat_map (rows_on p d m (rule_head p d place users)) ts
+            ≡ flat_map (rows_on p d m (rule_head p d place users) (depends_at p place)) ts
         go [] = refl
         go (t ∷ ts) = ap (λ (x : List ℕ). x ++ flat_map (λ s. lines_of p d u m (section_grants p place users s)) ts)
             (section-rows place users t for)
-            ∙ ap (λ (x : List ℕ). rows_on p d m (rule_head p d place users) t ++ x) (go ts)
+            ∙ ap (λ (x : List ℕ). rows_on p d m (rule_head p d place users) (depends_at p place) t ++ x) (go ts)
 
     pub rule_skipped : (place : Place) (users : List Member) → is_for_user p u users ≡ false → (ss : List Section)
         → lines_of p d u m (flat_map (section_grants p place users) ss) ≡ []
@@ -204,22 +225,19 @@ no-names-left whole text (m ∷ ms) g [] none is = sym (is ∙ append-nil text)
 no-names-left whole text marks g (x ∷ xs) none is = cc
 
 -- a record from the parts that are written
-pub row-of-parts : (old one two three new head sign atom tags : List ℕ) → one ≡ old ++ head
+pub row-of-parts : (old one two three new head sign atom end : List ℕ) → one ≡ old ++ head
     → two ≡ one ++ fields_text default_writer (sign ∷ []) → three ≡ two ++ fields_text default_writer (atom ∷ [])
-    → new ≡ three ++ (fields_text default_writer (tags ∷ [] ∷ []) ++ 10 ∷ [])
-    → new ≡ old ++ (head ++ (fields_text default_writer (sign ∷ atom ∷ tags ∷ [] ∷ []) ++ 10 ∷ []))
-row-of-parts old one two three new head sign atom tags first second third end =
+    → new ≡ three ++ end
+    → new ≡ old ++ (head ++ (fields_text default_writer (sign ∷ atom ∷ []) ++ end))
+row-of-parts old one two three new head sign atom end first second third last =
     let text : List (List ℕ) → List ℕ = fields_text default_writer in
-    let all : text (sign ∷ atom ∷ tags ∷ [] ∷ []) ≡ text (sign ∷ []) ++ (text (atom ∷ []) ++ text (tags ∷ [] ∷ [])) =
-    fields_text-append (sign ∷ []) (atom ∷ tags ∷ [] ∷ [])
-    ∙ ap (λ (t : List ℕ). text (sign ∷ []) ++ t) (fields_text-append (atom ∷ []) (tags ∷ [] ∷ [])) in
-    end ∙ ap (λ (t : List ℕ). t ++ (text (tags ∷ [] ∷ []) ++ 10 ∷ [])) (third ∙ ap (λ (t : List ℕ). t ++ text (atom ∷ []))
+    last ∙ ap (λ (t : List ℕ). t ++ end) (third ∙ ap (λ (t : List ℕ). t ++ text (atom ∷ []))
     (second ∙ ap (λ (t : List ℕ). t ++ text (sign ∷ [])) first))
-    ∙ gathered old head (text (sign ∷ [])) (text (atom ∷ [])) (text (tags ∷ [] ∷ [])) (10 ∷ [])
-    ∙ ap (λ (t : List ℕ). old ++ (head ++ (t ++ 10 ∷ []))) (sym all)
+    ∙ gathered old head (text (sign ∷ [])) (text (atom ∷ [])) end
+    ∙ ap (λ (t : List ℕ). old ++ (head ++ (t ++ end))) (sym (fields_text-append (sign ∷ []) (atom ∷ [])))
   where
-    gathered : (a b c d e f : List ℕ) → (((a ++ b) ++ c) ++ d) ++ (e ++ f) ≡ a ++ (b ++ ((c ++ (d ++ e)) ++ f))
-    gathered a b c d e f = simp append_assoc
+    gathered : (a b c d e : List ℕ) → (((a ++ b) ++ c) ++ d) ++ e ≡ a ++ (b ++ ((c ++ d) ++ e))
+    gathered a b c d e = simp append_assoc
 
 -- the names that are marked, where not each is
 pub names-joined : (marks : List Bool) (names : List (List ℕ)) (text start apart : List ℕ) → list_all (λ m. m) marks ≡ false
@@ -238,51 +256,53 @@ members-joined p members text new start apart ss written empty are is =
     ∙ ap (λ (ws : List Signed). flat_map (λ (t : List ℕ). 44 ∷ 32 ∷ t) (map signed_text ws)) written)
 
 -- the records of a command, by what is in force there
-pub placed : (p : Policy) (head : List ℕ) (commands : List CommandSpec) (i : ℕ) (spec : CommandSpec) (state : TheState)
+pub placed : (p : Policy) (head depends : List ℕ) (commands : List CommandSpec) (i : ℕ) (spec : CommandSpec) (state : TheState)
     → HoldsBehind p (take (i + 1) commands) state
-    → command_rows p (head ++ fields_text default_writer (state.runas.items ∷ [])) (tags_text state.tags) spec
-    ≡ place_rows p head commands (i, spec)
+    → command_rows p (head ++ fields_text default_writer (state.runas.items ∷ [])) (row_end (tags_text state.tags) depends) spec
+    ≡ place_rows p head depends commands (i, spec)
 unfolding runas_at tags_at
-placed p head commands i spec state holds =
-    ap (λ (t : List ℕ). command_rows p (head ++ fields_text default_writer (t ∷ [])) (tags_text state.tags) spec) holds.runas
-    ∙ ap (λ (t : Tags). command_rows p (command_head p head commands i) (tags_text t) spec) holds.tags
+placed p head depends commands i spec state holds =
+    ap (λ (t : List ℕ). command_rows p (head ++ fields_text default_writer (t ∷ [])) (row_end (tags_text state.tags) depends) spec)
+    holds.runas
+    ∙ ap (λ (t : Tags). command_rows p (command_head p head commands i) (row_end (tags_text t) depends) spec) holds.tags
 
 -- one command more of a section
-pub next-place : (p : Policy) (head : List ℕ) (commands : List CommandSpec) (i : ℕ) (spec : CommandSpec) (old text new : List ℕ)
+pub next-place : (p : Policy) (head depends : List ℕ) (commands : List CommandSpec) (i : ℕ) (spec : CommandSpec) (old text new : List ℕ)
     → i < length commands → spec ≡ get_or commands i spec
-    → text ≡ old ++ flat_map (place_rows p head commands) (take i (enumerate_from 0 commands))
-    → new ≡ text ++ place_rows p head commands (i, spec)
-    → new ≡ old ++ flat_map (place_rows p head commands) (take (i + 1) (enumerate_from 0 commands))
-next-place p head commands i spec old text new within is so_far more =
+    → text ≡ old ++ flat_map (place_rows p head depends commands) (take i (enumerate_from 0 commands))
+    → new ≡ text ++ place_rows p head depends commands (i, spec)
+    → new ≡ old ++ flat_map (place_rows p head depends commands) (take (i + 1) (enumerate_from 0 commands))
+next-place p head depends commands i spec old text new within is so_far more =
     let there : i < length (enumerate_from 0 commands) = subst (λ n. i < n) (sym (length-enumerate_from 0 commands)) within in
     let from : 0 + i ≡ i = omega arith in
     let item : (i, spec) ≡ get_or (enumerate_from 0 commands) i (i, spec) =
     ap {B = ℕ × CommandSpec} (λ s. (i, s)) is ∙ ap {B = ℕ × CommandSpec} (λ n. (n, get_or commands i spec)) (sym from)
     ∙ sym (get_or-enumerate_from 0 commands i (i, spec) within) in
-    flat_map-next (place_rows p head commands) (enumerate_from 0 commands) i (i, spec) old text new there item so_far more
+    flat_map-next (place_rows p head depends commands) (enumerate_from 0 commands) i (i, spec) old text new there item so_far more
 
-pub all-places : (p : Policy) (head : List ℕ) (commands : List CommandSpec) (i : ℕ) (old text : List ℕ) → length commands ≤ i
-    → text ≡ old ++ flat_map (place_rows p head commands) (take i (enumerate_from 0 commands))
-    → text ≡ old ++ section_rows p head commands
-all-places p head commands i old text past is =
-    is ∙ ap (λ (cs : List (ℕ × CommandSpec)). old ++ flat_map (place_rows p head commands) cs)
+pub all-places : (p : Policy) (head depends : List ℕ) (commands : List CommandSpec) (i : ℕ) (old text : List ℕ) → length commands ≤ i
+    → text ≡ old ++ flat_map (place_rows p head depends commands) (take i (enumerate_from 0 commands))
+    → text ≡ old ++ section_rows p head depends commands
+all-places p head depends commands i old text past is =
+    is ∙ ap (λ (cs : List (ℕ × CommandSpec)). old ++ flat_map (place_rows p head depends commands) cs)
     (take-whole (enumerate_from 0 commands) i (subst (λ n. n ≤ i) (sym (length-enumerate_from 0 commands)) past))
 
 -- the records of a section that is for the host
-pub host-rows : (p : Policy) (d : KnownRows) (m : Option Machine) (head own : List ℕ) (s : Section) (text new : List ℕ)
-    → is_for_host p m s.hosts ≡ true → own ≡ section_head p d head s.hosts → new ≡ text ++ section_rows p own s.commands
-    → new ≡ text ++ rows_on p d m head s
-host-rows p d m head own s text new on is more =
-    more ∙ ap (λ (t : List ℕ). text ++ section_rows p t s.commands) is
-    ∙ ap (λ (t : List ℕ). text ++ t) (sym (ap (λ b. cond b (section_rows p (section_head p d head s.hosts) s.commands) []) on))
+pub host-rows : (p : Policy) (d : KnownRows) (m : Option Machine) (head depends own : List ℕ) (s : Section) (text new : List ℕ)
+    → is_for_host p m s.hosts ≡ true → own ≡ section_head p d head s.hosts → new ≡ text ++ section_rows p own depends s.commands
+    → new ≡ text ++ rows_on p d m head depends s
+host-rows p d m head depends own s text new on is more =
+    more ∙ ap (λ (t : List ℕ). text ++ section_rows p t depends s.commands) is
+    ∙ ap (λ (t : List ℕ). text ++ t) (sym (ap (λ b. cond b (section_rows p (section_head p d head s.hosts) depends s.commands) []) on))
 
 -- the records of a rule that is for the user, and of one that is not
 pub user-rows : (p : Policy) (d : KnownRows) (u : Option Person) (m : Option Machine) (place : Place) (users : List Member)
-    (ss : List Section) (head text new : List ℕ) → is_for_user p u users ≡ true → head ≡ rule_head p d place users
-    → new ≡ text ++ flat_map (rows_on p d m head) ss
+    (ss : List Section) (head depends text new : List ℕ) → is_for_user p u users ≡ true → head ≡ rule_head p d place users
+    → depends ≡ depends_at p place → new ≡ text ++ flat_map (rows_on p d m head depends) ss
     → new ≡ text ++ lines_of p d u m (flat_map (section_grants p place users) ss)
-user-rows p d u m place users ss head text new for is more =
-    more ∙ ap (λ (h : List ℕ). text ++ flat_map (rows_on p d m h) ss) is
+user-rows p d u m place users ss head depends text new for is noted more =
+    more ∙ ap (λ (h : List ℕ). text ++ flat_map (rows_on p d m h depends) ss) is
+    ∙ ap (λ (n : List ℕ). text ++ flat_map (rows_on p d m (rule_head p d place users) n) ss) noted
     ∙ ap (λ (t : List ℕ). text ++ t) (sym (rule_rows p d u m place users for ss))
 
 pub no-rows : (p : Policy) (d : KnownRows) (u : Option Person) (m : Option Machine) (place : Place) (users : List Member)

@@ -1,6 +1,6 @@
 -- The table of grants: for each grant of a policy whom it is for, where, as whom, and what it allows or denies.
 -- sudoers(5), "User Specification"; cvtsudoers(1), option -e.
-use Rattle.std.specs.Prelude.{ℕ, Bool, true, ◌&&◌, cond, List, [], ◌∷◌, ◌++◌, codes, drop, filter, flat_map, map, zip}
+use Rattle.std.specs.Prelude.{ℕ, Bool, true, not, ◌&&◌, cond, List, [], ◌∷◌, ◌++◌, codes, drop, filter, flat_map, map, zip}
 use Rattle.std.specs.Prelude.{Option, Some, None}
 use Rattle.std.specs.List.{list_all}
 use Rattle.audit_files.specs.Places.{place_text}
@@ -17,6 +17,7 @@ use Rattle.sudo_policy.specs.Written.{written_form}
 use Rattle.sudo_verdict.specs.Grants.{Grant, grants}
 use Rattle.sudo_verdict.specs.Values.{user_allowed, host_allowed}
 use Rattle.review_texts.specs.Masks.{as_written}
+use Rattle.review_grants.specs.Depends.{depends_at, is_note_grant}
 
 -- texts with a comma and a space between them: each behind the two, without the first two
 abbrev pub joined : List (List ℕ) → List ℕ
@@ -63,10 +64,10 @@ abbrev pub grants_header : List (List ℕ)
 grants_header = codes "place" ∷ codes "users" ∷ codes "hosts" ∷ codes "runas" ∷ codes "sign" ∷ codes "command"
     ∷ codes "tags" ∷ codes "depends" ∷ []
 
--- the record of a grant; nothing is noted that it depends on
+-- the record of a grant; what it depends on is what the grants at its place do
 abbrev pub grant_fields : List (List ℕ) → Policy → KnownRows → Grant → List (List ℕ)
 grant_fields files p d g = place_text files g.place ∷ users_text p d g.users ∷ hosts_text p d g.hosts
-    ∷ runas_text p g.runas ∷ sign_text g.negated ∷ as_written (atom_text g.atom) ∷ tags_text g.tags ∷ [] ∷ []
+    ∷ runas_text p g.runas ∷ sign_text g.negated ∷ as_written (atom_text g.atom) ∷ tags_text g.tags ∷ depends_at p g.place ∷ []
 
 -- a user list allows the user that is asked about, if any
 abbrev pub is_for_user : Policy → Option Person → List Member → Bool
@@ -82,7 +83,11 @@ is_for_host p (Some m) hosts = host_allowed p hosts m
 abbrev pub is_asked_about : Policy → Option Person → Option Machine → Grant → Bool
 is_asked_about p u m g = is_for_user p u g.users && is_for_host p m g.hosts
 
--- the header, and a record for each grant that is asked about, in the policy's order
+-- it is one of those, and no note
+abbrev pub is_shown : Policy → Option Person → Option Machine → Grant → Bool
+is_shown p u m g = is_asked_about p u m g && not (is_note_grant g)
+
+-- the header, and a record for each grant that is asked about but the notes, in the policy's order
 abbrev pub grants_text : Policy → KnownRows → Option Person → Option Machine → List ℕ
 grants_text p d u m =
-    line grants_header ++ flat_map (λ g. line (grant_fields p.files p d g)) (filter (is_asked_about p u m) (grants p))
+    line grants_header ++ flat_map (λ g. line (grant_fields p.files p d g)) (filter (is_shown p u m) (grants p))

@@ -1,14 +1,18 @@
-//! Who may do what: the grants of a written-out policy, with the known users and hosts that their lists allow.
+//! Who may do what: the grants of a written-out policy, with the known users and hosts that their lists allow, and what they
+//! depend on.
 #![tactic(auto)]
 
+mod depends;
 mod fields;
 mod in_force;
 mod laws;
 mod names;
+mod noted;
 mod rows;
 mod runas_text;
 mod writing;
 
-pub use laws::last_row_decides;
+pub use depends::NotedPlaces;
+pub use laws::{last_row_decides, unnoted_verdicts_hold};
 pub use rows::Scope;
 pub use writing::{Stopped, write_grants};

@@ -11,15 +11,17 @@ ghost use Rattle.sudo_verdict.specs.Body.Resolved.{body_resolves};
 ghost use Rattle.sudo_verdict.specs.Grants.{entry_grants, section_grants};
 ghost use Rattle.review_texts.specs.Masks.{as_written};
 ghost use Rattle.review_grants.specs.Body.Heads as heads;
+ghost use Rattle.review_grants.specs.Depends.{IsNoted};
 ghost use Rattle.review_grants.specs.GrantRows.{grants_header, is_for_host, is_for_user};
 ghost use Rattle.review_grants.specs.GrantRows.{sign_text};
 
+use crate::depends::NotedPlaces;
 use crate::fields::push_one;
 use crate::in_force::InForce;
 use crate::names::Names;
 use crate::runas_text::written;
 use audit_files::{push_field, push_next_field, push_place, put_tags};
-use review_texts::as_written;
+use review_texts::{as_written, note_in};
 use std::alloc::{AllocError, Global};
 use std::slice;
 use sudo_grammar::{Entry, EntryBody, Signed};
@@ -77,33 +79,51 @@ fn push_atom(alloc: Global, text: &mut Vec<u8>, member: &Signed) -> Result<(), A
     push_one(text, as_written(own.as_slice()))
 }
 
-// Appends the tags, nothing for what the grant depends on, and the end of the record.
+// Appends the tags, what the grant depends on, and the end of the record.
 #[tactic(auto, unfolding(csv::specs::Writing::fields_text))]
-fn push_end(text: &mut Vec<u8>, tags: &[u8]) -> Result<(), AllocError>
+fn push_end(text: &mut Vec<u8>, tags: &[u8], depends: &[u8]) -> Result<(), AllocError>
     ensures { OnOk result (text.new.items
-        ≡ text.old.items ++ (fields_text default_writer (tags.now ∷ [] ∷ []) ++ 10 ∷ [])) }
+        ≡ text.old.items ++ heads.row_end tags.now depends.now) }
 {
     push_next_field(text, tags)?;
-    push_next_field(text, b"")?;
+    push_next_field(text, depends)?;
     text.push(b'\n')?;
     Ok(())
 }
 
-// Appends the record of a written-out command behind the fields of its lists and of its runas.
+// Appends the record of a written-out command between its first fields and its last.
 fn push_row(
     alloc: Global,
     text: &mut Vec<u8>,
     head: &[u8],
-    tags: &[u8],
+    end: &[u8],
     member: &Signed,
 ) -> Result<(), AllocError>
     ensures { OnOk result (text.new.items
-        ≡ text.old.items ++ heads.command_row head.now tags.now member.now) }
+        ≡ text.old.items ++ heads.command_row head.now end.now member.now) }
 {
     text.extend_from_slice(head)?;
     push_one(text, sign(member.negated))?;
     push_atom(alloc, text, member)?;
-    push_end(text, tags)
+    text.extend_from_slice(end)?;
+    Ok(())
+}
+
+// Appends the record of a written-out command, unless it stands for a note.
+fn push_member(
+    alloc: Global,
+    text: &mut Vec<u8>,
+    head: &[u8],
+    end: &[u8],
+    member: &Signed,
+) -> Result<(), AllocError>
+    ensures { OnOk result (text.new.items
+        ≡ text.old.items ++ heads.member_row head.now end.now member.now) }
+{
+    match note_in(&member.atom) {
+        Some(_) => Ok(()),
+        None => push_row(alloc, text, head, end, member),
+    }
 }
 
 // Appends the records of a command, written out.
@@ -112,16 +132,16 @@ fn push_command(
     text: &mut Vec<u8>,
     checked: &Checked,
     head: &[u8],
-    tags: &[u8],
+    end: &[u8],
     spec: &CommandSpec,
 ) -> Result<(), AllocError>
     requires { IsTrue (command_resolves checked.now spec.now) }
     ensures { OnOk result (text.new.items
-        ≡ text.old.items ++ heads.command_rows checked.now head.now tags.now spec.now) }
+        ≡ text.old.items ++ heads.command_rows checked.now head.now end.now spec.now) }
 {
     let members = written(alloc, checked, Kind::Cmnd, slice::from_ref(&spec.command))?;
     for member in members.as_slice() {
-        push_row(alloc, text, head, tags, member)?;
+        push_member(alloc, text, head, end, member)?;
     }
     Ok(())
 }
@@ -132,20 +152,23 @@ fn push_place_rows(
     text: &mut Vec<u8>,
     checked: &Checked,
     head: &[u8],
+    depends: &[u8],
     in_force: &InForce,
     spec: &CommandSpec,
 ) -> Result<(), AllocError>
     requires { IsTrue (command_resolves checked.now spec.now) }
     ensures { OnOk result (text.new.items ≡ text.old.items ++ heads.command_rows checked.now
         (head.now ++ fields_text default_writer (in_force.now.runas.items ∷ []))
-        (tags_text in_force.now.tags) spec.now) }
+        (heads.row_end (tags_text in_force.now.tags) depends.now) spec.now) }
 {
     let mut own = Vec::new(alloc);
     own.extend_from_slice(head)?;
     push_one(&mut own, in_force.runas.as_slice())?;
     let mut tags = Vec::new(alloc);
     put_tags(&mut tags, &in_force.tags)?;
-    push_command(alloc, text, checked, &own, &tags, spec)
+    let mut end = Vec::new(alloc);
+    push_end(&mut end, &tags, depends)?;
+    push_command(alloc, text, checked, &own, &end, spec)
 }
 
 // Appends the records of the commands of a section behind the fields of its lists.
@@ -154,28 +177,31 @@ fn push_section(
     text: &mut Vec<u8>,
     checked: &Checked,
     head: &[u8],
+    depends: &[u8],
     commands: &[CommandSpec],
 ) -> Result<(), AllocError>
     requires { IsTrue (list_all (command_resolves checked.now) commands.now) }
-    ensures { OnOk result (text.new.items
-        ≡ text.old.items ++ heads.section_rows checked.now head.now commands.now) }
+    ensures { OnOk result (text.new.items ≡ text.old.items
+        ++ heads.section_rows checked.now head.now depends.now commands.now) }
 {
     let mut in_force = InForce::nothing(alloc);
     for spec in commands {
         in_force.pass(alloc, checked, spec)?;
-        push_place_rows(alloc, text, checked, head, &in_force, spec)?;
+        push_place_rows(alloc, text, checked, head, depends, &in_force, spec)?;
     }
     Ok(())
 }
 
-/// A policy, the known users and hosts with their names, and whom a table is about.
+/// A policy, what its grants depend on, the known users and hosts with their names, and whom a table is about.
 #[derive(Clone, Copy)]
 pub(crate) struct Table<'a> {
     pub(crate) checked: &'a Checked,
+    pub(crate) noted: &'a NotedPlaces,
     pub(crate) directory: &'a Directory,
     pub(crate) names: &'a Names,
     pub(crate) scope: Scope<'a>,
     ghost named: { heads.AreNames directory.now names.now },
+    ghost knows: { IsNoted checked.now noted.now },
 }
 
 // Appends the records of a section, if it is for the host that is asked about.
@@ -184,12 +210,13 @@ fn push_for_host(
     text: &mut Vec<u8>,
     table: Table<'_>,
     head: &[u8],
+    depends: &[u8],
     section: &Section,
 ) -> Result<(), AllocError>
     requires { IsTrue (section_resolves table.checked.now section.now) }
     ensures { OnOk result (text.new.items ≡ text.old.items ++ heads.rows_on
         table.entry.checked.now table.entry.directory.now (option_copied table.entry.scope.host)
-        head.now section.now) }
+        head.now depends.now section.now) }
 {
     let hosts = section.hosts.as_slice();
     if !is_on(table.checked, table.scope.host, hosts) {
@@ -206,6 +233,7 @@ fn push_for_host(
         text,
         table.checked,
         &own,
+        depends,
         section.commands.as_slice(),
     )
 }
@@ -216,15 +244,16 @@ fn push_sections(
     text: &mut Vec<u8>,
     table: Table<'_>,
     head: &[u8],
+    depends: &[u8],
     sections: &[Section],
 ) -> Result<(), AllocError>
     requires { IsTrue (list_all (section_resolves table.checked.now) sections.now) }
     ensures { OnOk result (text.new.items ≡ text.old.items ++ flat_map (heads.rows_on
-        table.entry.checked.now table.entry.directory.now (option_copied table.entry.scope.host) head.now)
-        sections.now) }
+        table.entry.checked.now table.entry.directory.now (option_copied table.entry.scope.host)
+        head.now depends.now) sections.now) }
 {
     for section in sections {
-        push_for_host(alloc, text, table, head, section)?;
+        push_for_host(alloc, text, table, head, depends, section)?;
     }
     Ok(())
 }
@@ -271,7 +300,8 @@ fn push_rule(
         return Ok(());
     }
     let head = rule_head(alloc, table, place, users)?;
-    push_sections(alloc, text, table, &head, sections)
+    let depends = table.noted.depends(place);
+    push_sections(alloc, text, table, &head, depends, sections)
 }
 
 /// Appends the records of an entry: those of a rule.

@@ -9,6 +9,7 @@ ghost use Rattle.review_grants.specs.GrantRows.{grants_header, grants_text};
 ghost use Rattle.audit_files.specs.Report.{line};
 ghost use Rattle.review_grants.specs.Writing.{IsStopped, failures_of};
 
+use crate::depends::NotedPlaces;
 use crate::names::Names;
 use crate::rows::{Scope, Table, push_entry, push_header};
 use audit_files::{Sink, WriteFault, write_all_of};
@@ -121,13 +122,13 @@ fn write_table<O: Sink>(alloc: Global, table: Table<'_>, out: &mut O) -> Result<
 
 /// Writes the table of the grants of a checked policy as CSV: the header
 /// `place,users,hosts,runas,sign,command,tags,depends`, then a record for each command of the written-out policy, in its
-/// order, whose lists allow the user and the host of the scope. Writes the records of a rule before it makes many more, so
-/// that memory holds those of one rule beside the policy.
+/// order, whose lists allow the user and the host of the scope; a command that stands for a note has none. Writes the records
+/// of a rule before it makes many more, so that memory holds those of one rule beside the policy and its notes.
 ///
 /// `place` is `PATH:LINE` of its rule; `users` and `hosts` are the known ones that the lists of the rule and of its section
 /// allow, each as it would stand in a policy, and `ALL` where they allow each; `runas` is the runas in force, its aliases
-/// written out, and empty without one; `sign` is `!` for a command that is denied; `tags` are those in force; `depends` is
-/// empty. Returns `Write` if a write failed, and `Memory` if allocation failed; then the first bytes of the table were
+/// written out, and empty without one; `sign` is `!` for a command that is denied; `tags` are those in force; `depends` names
+/// the notes at the place of the rule, with a blank between them. Returns `Write` if a write failed, and `Memory` if allocation failed; then the first bytes of the table were
 /// written, and no more.
 pub fn write_grants<O: Sink>(
     alloc: Global,
@@ -145,13 +146,16 @@ pub fn write_grants<O: Sink>(
     ensures failures { O.stalled_writes out.new ≡ O.stalled_writes out.old + failures_of result }
 {
     let names = Names::of(alloc, directory)?;
+    let noted = NotedPlaces::of(alloc, checked)?;
     let table = Table {
         checked,
+        noted: &noted,
         directory,
         names: &names,
         scope,
     };
     let ended = write_table(alloc, table, out);
+    drop(noted);
     drop(names);
     ended
 }

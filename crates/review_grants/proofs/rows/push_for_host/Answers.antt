@@ -19,7 +19,7 @@ returns c =
     (c.in_ok-extend_from_slice.ensures.items ∙ ap (λ (t : List ℕ). t ++ c.args.head.now) c.new-own.ensures.items)
     ∙ ap (λ (t : List ℕ). c.args.head.now ++ fields_text default_writer (t ∷ []))
     (c.deref.ensures.value ∙ c.in_ok-allowed.ensures ∙ ap (hosts_text p d) c.as_slice-hosts.ensures) in
-    on_ok c.push_section.result (λ h. host-rows p d m c.args.head.now _ c.args.section.now c.args.text.now.items _ on own
-    (h ∙ ap (λ (t : List ℕ). c.args.text.now.items ++ section_rows p t c.as_slice.result.now) c.deref-2.ensures.value
-    ∙ ap (λ (cs : List _). c.args.text.now.items ++ section_rows p c.push_one.new.text.items cs) c.as_slice.ensures))
+    on_ok c.push_section.result (λ h. host-rows p d m c.args.head.now c.args.depends.now _ c.args.section.now c.args.text.now.items _ on own
+    (h ∙ ap (λ (t : List ℕ). c.args.text.now.items ++ section_rows p t c.args.depends.now c.as_slice.result.now) c.deref-2.ensures.value
+    ∙ ap (λ (cs : List _). c.args.text.now.items ++ section_rows p c.push_one.new.text.items c.args.depends.now cs) c.as_slice.ensures))
     c.push_section.ensures

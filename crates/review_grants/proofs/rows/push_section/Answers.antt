@@ -15,12 +15,12 @@ loop-spec-preserved c =
     (sym (take-more c.args.commands.now at spec c.loop-spec-test.true c.spec-item.is))
     (c.in_ok-pass.ensures (take at c.args.commands.now) c.loop-spec.invariant.0) in (
       holds,
-      next-place c.args.checked.now c.args.head.now c.args.commands.now at spec c.args.text.now.items c.loop-spec.text.items _
-          c.loop-spec-test.true c.spec-item.is c.loop-spec.invariant.1
+      next-place c.args.checked.now c.args.head.now c.args.depends.now c.args.commands.now at spec c.args.text.now.items
+          c.loop-spec.text.items _ c.loop-spec-test.true c.spec-item.is c.loop-spec.invariant.1
           (c.in_ok-push_place_rows.ensures ∙ ap (λ (t : List _). c.loop-spec.text.items ++ t)
-          (placed c.args.checked.now c.args.head.now c.args.commands.now at spec c.pass.new.self holds)),
+          (placed c.args.checked.now c.args.head.now c.args.depends.now c.args.commands.now at spec c.pass.new.self holds)),
     )
 
 pub returns : goal.returns
-returns c = all-places c.args.checked.now c.args.head.now c.args.commands.now c.loop-spec.spec-index c.args.text.now.items _
-    c.loop-spec-test.false c.loop-spec.invariant.1
+returns c = all-places c.args.checked.now c.args.head.now c.args.depends.now c.args.commands.now c.loop-spec.spec-index
+    c.args.text.now.items _ c.loop-spec-test.false c.loop-spec.invariant.1

@@ -7,4 +7,4 @@ use Rattle.review_grants.proofs.rows.push_section.Given as goal
 abbrev pub invariant-loop-spec : goal.invariant-loop-spec
 invariant-loop-spec l = HoldsBehind l.checked (take l.spec-index l.commands) l.in_force
     × (l.text.items ≡ l.fn.text.items
-    ++ flat_map (place_rows l.checked l.head l.commands) (take l.spec-index (enumerate_from 0 l.commands)))
+    ++ flat_map (place_rows l.checked l.head l.depends l.commands) (take l.spec-index (enumerate_from 0 l.commands)))

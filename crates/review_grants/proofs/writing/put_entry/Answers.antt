@@ -1,4 +1,4 @@
-use Rattle.std.proofs.Common.{◌≡◌, [], option_copied, refl}
+use Rattle.std.proofs.Common.{[], option_copied, refl}
 use Rattle.sudo_parser.proofs.Steps.{passed-on}
 use Rattle.sudo_verdict.specs.Grants.{entry_grants}
 use Rattle.review_grants.specs.Body.Heads.{lines_of}

@@ -1,5 +1,4 @@
-use Rattle.std.proofs.Common.{◌≡◌, ◌<◌, ◌∙◌, ◌+◌, ap, arith, length, min, subst, take, rules}
-use Rattle.std.specs.Io.KnownBytes.{Appends}
+use Rattle.std.proofs.Common.{◌≡◌, ◌∙◌, ◌+◌, ap, length, min, rules}
 use Rattle.review_grants.proofs.WritingLemmas.{emptied, stops-writing}
 use Rattle.review_grants.proofs.writing.write_pending.Goals as goal
 
