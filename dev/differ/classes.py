@@ -12,7 +12,7 @@ from differ.pieces import Piece, spelled
 from differ.profile import EVEN, FILES, GRANTS, parameters, with_runas
 from differ.world import lower
 
-# The classes in their order, but for that of linked folders.
+# The classes in their order, but for those that decide no verdict.
 NAMES = (
     "return blank-after-backslash join torn-mark include-escape include-indent comment empty-group caret escape case"
     " quoted-host quoted-escape defaults sudoedit network bracket setenv group-form reserved arguments"

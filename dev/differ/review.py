@@ -11,8 +11,9 @@ from kulavemia.command import PROGRAM, Fault
 
 NONE, REFUSED, FAILED, SOME = 0, 1, 4, 5
 LINE = re.compile(r"(?P<file>.+?):(?P<line>\d+): caution: (?P<name>[a-z-]+): (?P<text>.*)")
-# Classes that decide no verdict here: no file is asked for below a folder that is a link, and an unknown parameter says nothing.
-LEFT_OUT = ("linked", "unknown-parameter")
+# Classes that decide no verdict here: no file is asked for below a folder that is a link, an unknown parameter says nothing, and
+# no policy is drawn with a command that stands for a note.
+LEFT_OUT = ("linked", "unknown-parameter", "depends")
 
 
 class Caution(NamedTuple):

@@ -34,6 +34,10 @@ _ENVIRONMENT = (
     "Whether a user may set environment variables may differ for sudo. With one, a listed command may be worth any command;"
     " who has a way to root does not differ."
 )
+_NOTED = (
+    "Whether the command may run depends on the digest of its file, the time, or another root, which are not judged: each answer"
+    " on this page may differ."
+)
 _CLASSES = {
     "return": Effect(WHO, _LINE),
     "blank-after-backslash": Effect(WHO, _LINE),
@@ -57,6 +61,7 @@ _CLASSES = {
     "group-form": Effect(OTHER, "Answers to requests of logs that ask for no group may differ; who can become root does not."),
     "reserved": Effect(WHO, "sudo skips this line, and each rule that has the alias: each answer on this page may differ."),
     "arguments": Effect(WHO, _LINE),
+    "depends": Effect(WHO, _NOTED),
 }
 _PASSWORDS = Effect(PASSWORD, "Whether a password is asked, and whose, is not told on this page: it shows a question mark there.")
 _TARGET = "A rule that names no target is not for root, but for the user that this line names: each answer may differ."

@@ -183,7 +183,7 @@ class Effects(unittest.TestCase):
     def test_each_class_that_may_change_a_cell_says_so(self) -> None:
         # By the rows of docs/PROFILE.md: these lines have another rule, or name others, for sudo.
         changing = "return blank-after-backslash join torn-mark include-escape include-indent comment empty-group escape case"
-        for name in f"{changing} quoted-host quoted-escape network reserved arguments one-of-tomorrow".split():
+        for name in f"{changing} quoted-host quoted-escape network reserved arguments depends one-of-tomorrow".split():
             self.assertEqual(self.effect(name, "alice ALL = /bin/ls"), effects.WHO, name)
         for name in ("linked", "sudoedit", "setenv"):
             self.assertEqual(self.effect(name, "alice ALL = /bin/ls"), effects.COMMANDS, name)

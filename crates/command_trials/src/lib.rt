@@ -6,6 +6,8 @@ mod fault_trials;
 #[cfg(test)]
 mod growth_trials;
 #[cfg(test)]
+mod note_trials;
+#[cfg(test)]
 mod run_trials;
 #[cfg(test)]
 mod runs;

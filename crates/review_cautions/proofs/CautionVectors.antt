@@ -20,6 +20,9 @@ use Rattle.sudo_grammar.specs.declared.policy.CommandSpec.{CommandSpec}
 use Rattle.sudo_grammar.specs.declared.policy.EntryBody.TheVariants as entries
 use Rattle.sudo_grammar.specs.declared.policy.Entry.{Entry}
 use Rattle.sudo_policy.specs.Definitions.{MemberList, granting_list, definition_in}
+use Rattle.review_texts.specs.Notes.{note_path}
+use Rattle.review_texts.specs.declared.note.Note.{Note}
+use Rattle.review_texts.specs.declared.note.Note.TheVariants.{Digest, Time, Chroot}
 use Rattle.review_cautions.specs.declared.class.CautionClass.TheVariants.{Return, BlankAfterBackslash, Join, TornMark}
 use Rattle.review_cautions.specs.declared.class.CautionClass.TheVariants.{IncludeEscape, IncludeIndent, Comment, EmptyGroup}
 use Rattle.review_cautions.specs.declared.class.CautionClass.TheVariants.{Caret, Escape, Case, QuotedHost, QuotedEscape, Linked, Defaults}
@@ -27,7 +30,7 @@ use Rattle.review_cautions.specs.declared.class.CautionClass.TheVariants.{Sudoed
 use Rattle.review_cautions.specs.declared.class.CautionClass.TheVariants.{GroupForm, Reserved, Arguments}
 use Rattle.review_cautions.specs.ListTests.{linking, usual_links}
 use Rattle.review_cautions.specs.Cautions.{caution_at, text_cautions, list_cautions, linked_cautions, parameter_cautions}
-use Rattle.review_cautions.specs.Cautions.{entry_cautions}
+use Rattle.review_cautions.specs.Cautions.{entry_cautions, note_caution, noted_cautions}
 use Rattle.review_cautions.specs.Uses.{deciding_in}
 
 -- the carriage return behind a command is dropped; that of a comment means nothing, nor does one behind `ALL`
@@ -452,3 +455,31 @@ deciding : (deciding_in (definition_in kinds.Host (place 0 1) (record { name = c
     (entries.Aliases kinds.User (record { name = codes "X"; members = [] } ∷ []))
     ≡ record { kind = kinds.User; place = place 0 1; granting = false; members = [] } ∷ [])
 deciding = (refl, refl)
+
+-- a command without arguments on a line
+noting : ℕ → List ℕ → MemberList
+noting line path = list kinds.Cmnd line (atoms.Command (map plain path) None)
+
+-- note by note, one caution for each line; none for another path, nor for a list of other kind
+depends : noted_cautions (noting 1 (codes "/t[z-a]") ∷ noting 2 (codes "/c[z-a]") ∷ noting 2 (codes "/d[z-a]") ∷ noting 2 (codes "/d[z-a]")
+    ∷ noting 3 (codes "/d[z-b]") ∷ noting 4 (codes "/e[z-a]") ∷ noting 5 (codes "/d[z-a]") ∷ [])
+    ≡ note_caution Digest (place 0 2) ∷ note_caution Digest (place 0 5) ∷ note_caution Time (place 0 1)
+    ∷ note_caution Chroot (place 0 2) ∷ []
+unfolding noting list member
+depends = refl
+
+-- none with arguments, nor with an escaped bracket
+no_depends : noted_cautions (list kinds.Cmnd 1 (command (map plain (codes "/d[z-a]")) []) ∷ list kinds.Cmnd 2 (atoms.Command
+    (map plain (codes "/d") ++ escaped 91 ∷ map plain (codes "z-a]")) None) ∷ []) ≡ []
+unfolding list member command
+no_depends = refl
+
+-- the paths of notes have no construct of another class, nor do they lie below a usual link
+depends_alone : (note : Note) → linked_cautions usual_links (noting 1 (note_path note) ∷ [])
+    ++ list_cautions Caret (noting 1 (note_path note) ∷ []) ++ list_cautions Escape (noting 1 (note_path note) ∷ [])
+    ++ list_cautions Sudoedit (noting 1 (note_path note) ∷ []) ++ list_cautions Bracket (noting 1 (note_path note) ∷ [])
+    ++ list_cautions Arguments (noting 1 (note_path note) ∷ []) ≡ []
+unfolding noting list member
+depends_alone Digest = refl
+depends_alone Time = refl
+depends_alone Chroot = refl

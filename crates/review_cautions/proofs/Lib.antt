@@ -2,6 +2,7 @@ pub mod Naming
 pub mod LineSteps
 pub mod CautionVectors
 pub mod MarkLaws
+pub mod NoteLaws
 pub mod CommentLaws
 pub mod GroupLaws
 pub mod UseLaws

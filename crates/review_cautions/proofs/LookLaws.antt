@@ -1,31 +1,48 @@
--- Lists without marks need not be looked at for a class that needs them.
-use Rattle.std.proofs.Common.{◌≡◌, ◌∙◌, Bool, true, false, cond, List, [], ◌∷◌, None, ap, map, refl, sym}
+-- Lists without marks need not be looked at for a class that needs them, nor for notes.
+use Rattle.std.proofs.Common.{◌≡◌, ◌∙◌, Bool, true, false, cond, List, [], ◌∷◌, ◌++◌, None, ap, map, refl, sym}
 use Rattle.std.specs.Prelude.{filter}
 use Rattle.sudo_policy.specs.Definitions.{MemberList}
-use Rattle.review_cautions.specs.Cautions.{caution_at, distinct_places, list_cautions}
+use Rattle.review_texts.specs.declared.note.Note.{Note}
+use Rattle.review_texts.specs.declared.note.Note.TheVariants.{Digest, Time, Chroot}
+use Rattle.review_cautions.specs.declared.caution.Caution.{Caution}
+use Rattle.review_cautions.specs.Cautions.{caution_at, distinct_places, list_cautions, note_caution, note_cautions, noted_cautions}
 use Rattle.review_cautions.specs.ListTests.{list_holds}
+use Rattle.review_cautions.specs.NoteTests.{list_has_note}
 use Rattle.review_cautions.specs.Marks.{list_is_marked, needs_mark}
 use Rattle.review_cautions.specs.declared.class.CautionClass.{CautionClass}
 use Rattle.review_cautions.proofs.MarkLaws.{unmarked_list}
+use Rattle.review_cautions.proofs.NoteLaws.{unmarked_notes}
 
-held-marked : (class : CautionClass) → needs_mark class ≡ true → (ls : List MemberList) →
-    filter (list_holds class) (filter list_is_marked ls) ≡ filter (list_holds class) ls
-held-marked class needs [] = refl
-held-marked class needs (l ∷ ls) = by (held-marked class needs ls) (list_is_marked l) refl
+-- where no list without marks passes a test, those with marks are all that do
+held-marked : (p : MemberList → Bool) → ((l : MemberList) → list_is_marked l ≡ false → p l ≡ false) → (ls : List MemberList) →
+    filter p (filter list_is_marked ls) ≡ filter p ls
+held-marked p unmarked [] = refl
+held-marked p unmarked (l ∷ ls) = by (held-marked p unmarked ls) (list_is_marked l) refl
   where
-    by : filter (list_holds class) (filter list_is_marked ls) ≡ filter (list_holds class) ls → (b : Bool) → list_is_marked l ≡ b →
-        filter (list_holds class) (cond (list_is_marked l) (l ∷ filter list_is_marked ls) (filter list_is_marked ls))
-        ≡ filter (list_holds class) (l ∷ ls)
+    by : filter p (filter list_is_marked ls) ≡ filter p ls → (b : Bool) → list_is_marked l ≡ b →
+        filter p (cond (list_is_marked l) (l ∷ filter list_is_marked ls) (filter list_is_marked ls)) ≡ filter p (l ∷ ls)
     by rest true is =
-        ap (λ v. filter (list_holds class) (cond v (l ∷ filter list_is_marked ls) (filter list_is_marked ls))) is
-        ∙ ap (λ (ms : List MemberList). cond (list_holds class l) (l ∷ ms) ms) rest
+        ap (λ v. filter p (cond v (l ∷ filter list_is_marked ls) (filter list_is_marked ls))) is
+        ∙ ap (λ (ms : List MemberList). cond (p l) (l ∷ ms) ms) rest
     by rest false is =
-        ap (λ v. filter (list_holds class) (cond v (l ∷ filter list_is_marked ls) (filter list_is_marked ls))) is
+        ap (λ v. filter p (cond v (l ∷ filter list_is_marked ls) (filter list_is_marked ls))) is
         ∙ rest
-        ∙ sym (ap (λ v. cond v (l ∷ filter (list_holds class) ls) (filter (list_holds class) ls)) (unmarked_list class needs l is))
+        ∙ sym (ap (λ v. cond v (l ∷ filter p ls) (filter p ls)) (unmarked l is))
 
 pub marked-cautions : (class : CautionClass) → needs_mark class ≡ true → (ls : List MemberList) →
     list_cautions class (filter list_is_marked ls) ≡ list_cautions class ls
 marked-cautions class needs ls =
     ap (λ (ms : List MemberList). map (caution_at class) (distinct_places None (map (λ (l : MemberList). l.place) ms)))
-    (held-marked class needs ls)
+    (held-marked (list_holds class) (unmarked_list class needs) ls)
+
+marked-note : (note : Note) (ls : List MemberList) → note_cautions note (filter list_is_marked ls) ≡ note_cautions note ls
+marked-note note ls =
+    ap (λ (ms : List MemberList). map (note_caution note) (distinct_places None (map (λ (l : MemberList). l.place) ms)))
+    (held-marked (list_has_note note) (unmarked_notes note) ls)
+
+pub marked-notes : (ls : List MemberList) → noted_cautions (filter list_is_marked ls) ≡ noted_cautions ls
+marked-notes ls =
+    let marked : List MemberList = filter list_is_marked ls in
+    ap (λ (found : List Caution). found ++ note_cautions Time marked ++ note_cautions Chroot marked ++ []) (marked-note Digest ls)
+    ∙ ap (λ (found : List Caution). note_cautions Digest ls ++ found ++ note_cautions Chroot marked ++ []) (marked-note Time ls)
+    ∙ ap (λ (found : List Caution). note_cautions Digest ls ++ note_cautions Time ls ++ found ++ []) (marked-note Chroot ls)

@@ -23,15 +23,15 @@ use Rattle.review_cautions.specs.declared.class.CautionClass.TheVariants.{Includ
 use Rattle.review_cautions.specs.declared.class.CautionClass.TheVariants.{Caret, Escape, Case}
 use Rattle.review_cautions.specs.declared.class.CautionClass.TheVariants.{QuotedHost, QuotedEscape, Linked, Defaults}
 use Rattle.review_cautions.specs.declared.class.CautionClass.TheVariants.{UnknownParameter, Sudoedit, Network}
-use Rattle.review_cautions.specs.declared.class.CautionClass.TheVariants.{Bracket, Setenv, GroupForm, Reserved, Arguments}
+use Rattle.review_cautions.specs.declared.class.CautionClass.TheVariants.{Bracket, Setenv, GroupForm, Reserved, Arguments, Depends}
 use Rattle.review_cautions.specs.declared.class.CautionClass.{CautionClass}
 use Rattle.review_cautions.specs.Marks.{is_plain, arguments_are_plain, atom_is_plain}
 use Rattle.review_cautions.specs.Marks.{token_is_plain, is_marked, list_is_marked, needs_mark}
 
-first : (a b : Bool) → (a && b) ≡ true → a ≡ true
+pub first : (a b : Bool) → (a && b) ≡ true → a ≡ true
 first a b h = grind arith
 
-second : (a b : Bool) → (a && b) ≡ true → b ≡ true
+pub second : (a b : Bool) → (a && b) ≡ true → b ≡ true
 second a b h = grind arith
 
 no_escape : (c : Ch) → is_plain c ≡ true → c.escaped ≡ false
@@ -40,10 +40,10 @@ no_escape c h = grind arith
 no_opening : (c : Ch) → is_plain c ≡ true → opens_bracket c ≡ false
 no_opening c h = grind arith
 
-either : (a b : Bool) → a ≡ false → b ≡ false → (a || b) ≡ false
+pub either : (a b : Bool) → a ≡ false → b ≡ false → (a || b) ≡ false
 either a b h k = grind arith
 
-both : (a b : Bool) → b ≡ false → (a && b) ≡ false
+pub both : (a b : Bool) → b ≡ false → (a && b) ≡ false
 both a b h = grind arith
 
 neither : (a b : Bool) → a ≡ false → (a && b) ≡ false
@@ -122,7 +122,7 @@ no_id [] h = refl
 no_id (c ∷ cs) h = grind (arith, no_escape c (first (is_plain c) (list_all is_plain cs) h))
 
 -- what makes a command plain
-plain_path : (path : List Ch) (args : Option (List Ch)) → atom_is_plain (atoms.Command path args) ≡ true → list_all is_plain path ≡ true
+pub plain_path : (path : List Ch) (args : Option (List Ch)) → atom_is_plain (atoms.Command path args) ≡ true → list_all is_plain path ≡ true
 plain_path path args h = grind arith
 
 short_path : (path : List Ch) (args : Option (List Ch)) → atom_is_plain (atoms.Command path args) ≡ true → is_long_sudoedit path ≡ false
@@ -224,7 +224,7 @@ plain_word (tokens.Mark mark) h = refl
 plain_word (tokens.Include folder hash path) h = refl
 
 -- a member without marks is plain
-plain_atom : (a b : Bool) → not (a && b) ≡ false → a ≡ true
+pub plain_atom : (a b : Bool) → not (a && b) ≡ false → a ≡ true
 plain_atom a b h = grind arith
 
 plain_token : (a b : Bool) → not (a && b) ≡ false → b ≡ true
@@ -257,9 +257,10 @@ unmarked Setenv n m h = refl
 unmarked GroupForm n m h = refl
 unmarked Reserved n m h = refl
 unmarked Arguments n m h = grind arith
+unmarked Depends n m h = refl
 
 -- where no member passes one test, none passes the other
-none_passes : (p q : Member → Bool) → ((m : Member) → q m ≡ false → p m ≡ false) → (ms : List Member) → list_any q ms ≡ false
+pub none_passes : (p q : Member → Bool) → ((m : Member) → q m ≡ false → p m ≡ false) → (ms : List Member) → list_any q ms ≡ false
     → list_any p ms ≡ false
 none_passes p q h [] k = refl
 none_passes p q h (m ∷ ms) k = either (p m) (list_any p ms) (h m (no_left (q m) (list_any q ms) k))

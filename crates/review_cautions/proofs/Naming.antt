@@ -9,7 +9,7 @@ use Rattle.review_cautions.specs.declared.class.CautionClass.TheVariants.{Return
 use Rattle.review_cautions.specs.declared.class.CautionClass.TheVariants.{IncludeEscape, IncludeIndent, Comment, EmptyGroup}
 use Rattle.review_cautions.specs.declared.class.CautionClass.TheVariants.{Caret, Escape, Case, QuotedHost, QuotedEscape, Linked, Defaults}
 use Rattle.review_cautions.specs.declared.class.CautionClass.TheVariants.{UnknownParameter, Sudoedit, Network, Bracket}
-use Rattle.review_cautions.specs.declared.class.CautionClass.TheVariants.{Setenv, GroupForm, Reserved, Arguments}
+use Rattle.review_cautions.specs.declared.class.CautionClass.TheVariants.{Setenv, GroupForm, Reserved, Arguments, Depends}
 use Rattle.review_cautions.specs.Classes.{classes, class_name}
 
 -- the class is the first of its own name
@@ -37,6 +37,7 @@ own_name Setenv = refl
 own_name GroupForm = refl
 own_name Reserved = refl
 own_name Arguments = refl
+own_name Depends = refl
 
 -- what the search finds for a name is a class exactly if the name is that of the class
 pub found_by_name : (name : List ℕ) (found : Option CautionClass) → found ≡ find (λ c. bytes_eq (class_name c) name) classes

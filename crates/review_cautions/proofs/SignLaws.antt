@@ -12,7 +12,7 @@ use Rattle.review_cautions.specs.declared.class.CautionClass.TheVariants.{Includ
 use Rattle.review_cautions.specs.declared.class.CautionClass.TheVariants.{Caret, Escape, Case}
 use Rattle.review_cautions.specs.declared.class.CautionClass.TheVariants.{QuotedHost, QuotedEscape, Linked, Defaults}
 use Rattle.review_cautions.specs.declared.class.CautionClass.TheVariants.{UnknownParameter, Sudoedit, Network}
-use Rattle.review_cautions.specs.declared.class.CautionClass.TheVariants.{Bracket, Setenv, GroupForm, Reserved, Arguments}
+use Rattle.review_cautions.specs.declared.class.CautionClass.TheVariants.{Bracket, Setenv, GroupForm, Reserved, Arguments, Depends}
 use Rattle.review_cautions.specs.PhysicalLines.{stripped, last_byte, may_have_command, ends_in_word, begins_in_word, has_slash}
 use Rattle.review_cautions.specs.PhysicalLines.{ends_in_escaped_blanks, ends_in_mark, has_escape_of, has_path_escape, end_blanks}
 use Rattle.review_cautions.specs.EmptyGroups.{has_empty_group}
@@ -158,6 +158,7 @@ quiet_line Setenv continuing line next h k = refl
 quiet_line GroupForm continuing line next h k = refl
 quiet_line Reserved continuing line next h k = refl
 quiet_line Arguments continuing line next h k = refl
+quiet_line Depends continuing line next h k = refl
 
 pub quiet : (class : CautionClass) (continuing : Bool) (line next : List ℕ) → may_hold line ≡ false
     → is_marked class continuing line next ≡ false

@@ -10,16 +10,19 @@ use Rattle.sudo_grammar.specs.declared.policy.EntryBody.TheVariants as entries
 use Rattle.sudo_grammar.specs.declared.policy.Entry.{Entry}
 use Rattle.sudo_grammar.specs.declared.policy.Policy.{Policy}
 use Rattle.sudo_policy.specs.Definitions.{MemberList, lists}
+use Rattle.review_texts.specs.Notes.{notes, note_name}
+use Rattle.review_texts.specs.declared.note.Note.{Note}
 use Rattle.review_cautions.specs.declared.caution.Caution.{Caution}
 use Rattle.review_cautions.specs.declared.class.CautionClass.{CautionClass}
 use Rattle.review_cautions.specs.declared.class.CautionClass.TheVariants.{Return, BlankAfterBackslash, Join, TornMark}
 use Rattle.review_cautions.specs.declared.class.CautionClass.TheVariants.{IncludeEscape, IncludeIndent, Comment, EmptyGroup}
 use Rattle.review_cautions.specs.declared.class.CautionClass.TheVariants.{Caret, Escape, Case, QuotedHost, QuotedEscape, Linked, Defaults}
 use Rattle.review_cautions.specs.declared.class.CautionClass.TheVariants.{UnknownParameter, Sudoedit, Network, Bracket}
-use Rattle.review_cautions.specs.declared.class.CautionClass.TheVariants.{Setenv, GroupForm, Reserved, Arguments}
+use Rattle.review_cautions.specs.declared.class.CautionClass.TheVariants.{Setenv, GroupForm, Reserved, Arguments, Depends}
 use Rattle.review_cautions.specs.PhysicalLines.{numbers_of}
 use Rattle.review_cautions.specs.declared.link.Link.{Link}
 use Rattle.review_cautions.specs.ListTests.{is_of_matching, list_holds, list_is_linked}
+use Rattle.review_cautions.specs.NoteTests.{list_has_note}
 use Rattle.review_cautions.specs.Uses.{AreDeciding}
 use Rattle.review_cautions.specs.Parameters.{decides, name_of}
 use Rattle.review_cautions.specs.KnownParameters.{is_unknown, shown_name}
@@ -74,6 +77,19 @@ class_cautions class all deciding = list_cautions class (looked_at class all dec
 abbrev pub linked_cautions : List Link → List MemberList → List Caution
 linked_cautions links lists =
     map (λ (l : MemberList). caution_at Linked l.place) (option_to_list (find (list_is_linked links) lists))
+
+-- the caution on a line with a command that stands for the note; its subject is the note's name
+abbrev pub note_caution : Note → Place → Caution
+note_caution note at = record { class = Depends; place = at; subject = note_name note }
+
+-- the lines whose lists have a command that stands for the note, one caution for each
+abbrev pub note_cautions : Note → List MemberList → List Caution
+note_cautions note lists =
+    map (note_caution note) (distinct_places None (map (λ (l : MemberList). l.place) (filter (list_has_note note) lists)))
+
+-- the same note by note
+abbrev pub noted_cautions : List MemberList → List Caution
+noted_cautions lists = flat_map (λ note. note_cautions note lists) notes
 
 -- the caution on a parameter of a line; its subject is the parameter's name
 abbrev pub parameter_caution : Place → Parameter → Caution
@@ -138,7 +154,7 @@ cautions_by links texts policy deciding =
     ++ class_cautions Sudoedit (lists policy) deciding ++ class_cautions Network (lists policy) deciding
     ++ class_cautions Bracket (lists policy) deciding
     ++ entry_cautions Setenv policy.entries ++ entry_cautions GroupForm policy.entries ++ entry_cautions Reserved policy.entries
-    ++ class_cautions Arguments (lists policy) deciding
+    ++ class_cautions Arguments (lists policy) deciding ++ noted_cautions (looked_at Depends (lists policy) deciding)
 
 -- these are the cautions on a policy whose files have these texts, where the machine has these links
 pub record AreCautionsOn (links : List Link) (texts : List (List ℕ)) (policy : Policy) (found : List Caution) : Type 0 where

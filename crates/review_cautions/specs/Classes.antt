@@ -5,13 +5,13 @@ use Rattle.review_cautions.specs.declared.class.CautionClass.TheVariants.{Return
 use Rattle.review_cautions.specs.declared.class.CautionClass.TheVariants.{IncludeEscape, IncludeIndent, Comment, EmptyGroup}
 use Rattle.review_cautions.specs.declared.class.CautionClass.TheVariants.{Caret, Escape, Case, QuotedHost, QuotedEscape, Linked, Defaults}
 use Rattle.review_cautions.specs.declared.class.CautionClass.TheVariants.{UnknownParameter, Sudoedit, Network, Bracket}
-use Rattle.review_cautions.specs.declared.class.CautionClass.TheVariants.{Setenv, GroupForm, Reserved, Arguments}
+use Rattle.review_cautions.specs.declared.class.CautionClass.TheVariants.{Setenv, GroupForm, Reserved, Arguments, Depends}
 
 -- the classes, in the order in which they are listed
 abbrev pub classes : List CautionClass
 classes = Return ∷ BlankAfterBackslash ∷ Join ∷ TornMark ∷ IncludeEscape ∷ IncludeIndent ∷ Comment ∷ EmptyGroup ∷ Caret
     ∷ Escape ∷ Case ∷ QuotedHost ∷ QuotedEscape ∷ Linked ∷ Defaults ∷ UnknownParameter ∷ Sudoedit ∷ Network ∷ Bracket
-    ∷ Setenv ∷ GroupForm ∷ Reserved ∷ Arguments ∷ []
+    ∷ Setenv ∷ GroupForm ∷ Reserved ∷ Arguments ∷ Depends ∷ []
 
 -- the name of a class
 abbrev pub class_name : CautionClass → List ℕ
@@ -38,6 +38,7 @@ class_name Setenv = codes "setenv"
 class_name GroupForm = codes "group-form"
 class_name Reserved = codes "reserved"
 class_name Arguments = codes "arguments"
+class_name Depends = codes "depends"
 
 -- what the reader does with the construct, and what sudo does
 abbrev pub class_text : CautionClass → List ℕ
@@ -75,3 +76,4 @@ class_text Reserved =
     codes "an alias has the name of an option, or of a tag before a colon: read here, reserved for sudo, which refuses the line"
 class_text Arguments =
     codes "arguments stand behind a folder, begin with ^, or one is = alone: arguments here, mostly refused by sudo"
+class_text Depends = codes "sudo asks for it too: taken as met here"

@@ -7,6 +7,7 @@ pub mod Addresses
 pub mod Arguments
 pub mod Marks
 pub mod ListTests
+pub mod NoteTests
 pub mod ReservedNames
 pub mod EntryTests
 pub mod Uses

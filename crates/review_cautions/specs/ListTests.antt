@@ -18,7 +18,7 @@ use Rattle.review_cautions.specs.declared.link.Link.{Link}
 use Rattle.review_cautions.specs.Escapes.{has_other_escape, has_quoted_mark, has_quoted_escape}
 use Rattle.review_cautions.specs.declared.class.CautionClass.{CautionClass}
 use Rattle.review_cautions.specs.declared.class.CautionClass.TheVariants.{Caret, Escape, Case, QuotedHost, QuotedEscape, Linked}
-use Rattle.review_cautions.specs.declared.class.CautionClass.TheVariants.{Sudoedit, Network, Bracket, Arguments}
+use Rattle.review_cautions.specs.declared.class.CautionClass.TheVariants.{Sudoedit, Network, Bracket, Arguments, Depends}
 
 -- a wildcard that no escape yields: `*`, `?` or `[`
 abbrev pub is_wildcard : Ch → Bool
@@ -112,6 +112,7 @@ is_of_matching QuotedHost = true
 is_of_matching Linked = true
 is_of_matching Network = true
 is_of_matching Bracket = true
+is_of_matching Depends = true
 is_of_matching _ = false
 
 -- commands

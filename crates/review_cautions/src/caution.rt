@@ -5,8 +5,8 @@ use crate::CautionClass;
 use std::alloc::Global;
 use sudo_text::{Place, Seq};
 
-/// A caution: its class, the place of the line, and its subject: the name of the parameter for a `Defaults` line, otherwise
-/// empty.
+/// A caution: its class, the place of the line, and its subject: the name of the parameter for a `Defaults` line, that of
+/// the note for a command that stands for one, otherwise empty.
 #[derive(Clone, Debug, Drop, PartialEq, Eq)]
 pub struct Caution {
     pub class: CautionClass,

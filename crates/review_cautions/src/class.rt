@@ -51,6 +51,8 @@ pub enum CautionClass {
     Reserved,
     /// Arguments behind a folder, that begin with `^`, or of which one is `=` alone.
     Arguments,
+    /// A command that stands for a note.
+    Depends,
 }
 
 impl CautionClass {
@@ -82,6 +84,7 @@ impl CautionClass {
             CautionClass::GroupForm => b"group-form",
             CautionClass::Reserved => b"reserved",
             CautionClass::Arguments => b"arguments",
+            CautionClass::Depends => b"depends",
         }
     }
 
@@ -157,12 +160,13 @@ impl CautionClass {
             CautionClass::Arguments => {
                 b"arguments stand behind a folder, begin with ^, or one is = alone: arguments here, mostly refused by sudo"
             }
+            CautionClass::Depends => b"sudo asks for it too: taken as met here",
         }
     }
 }
 
 /// The classes, in the order in which they are listed.
-pub const CAUTION_CLASSES: [CautionClass; 23] = [
+pub const CAUTION_CLASSES: [CautionClass; 24] = [
     CautionClass::Return,
     CautionClass::BlankAfterBackslash,
     CautionClass::Join,
@@ -186,6 +190,7 @@ pub const CAUTION_CLASSES: [CautionClass; 23] = [
     CautionClass::GroupForm,
     CautionClass::Reserved,
     CautionClass::Arguments,
+    CautionClass::Depends,
 ];
 
 // Returns the first class of a name.

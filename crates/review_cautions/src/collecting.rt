@@ -13,6 +13,7 @@ use crate::link::usual_links;
 use crate::lists::{push_linked, push_lists};
 use crate::looked::LookedLists;
 use crate::marks::scanned_lists;
+use crate::notes::push_notes;
 use crate::signs::signed_lines;
 use crate::unknown::push_unknown;
 use crate::uses::deciding_lists;
@@ -98,5 +99,6 @@ pub fn cautions_by_links(
     push_entries(alloc, CautionClass::GroupForm, entries, &mut found)?;
     push_entries(alloc, CautionClass::Reserved, entries, &mut found)?;
     push_looked(alloc, CautionClass::Arguments, &looked, &mut found)?;
+    push_notes(alloc, looked.noted_lists(), &mut found)?;
     Ok(found)
 }

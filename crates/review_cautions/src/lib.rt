@@ -22,6 +22,7 @@ mod lists;
 mod looked;
 mod marked;
 mod marks;
+mod notes;
 mod passwords;
 mod reserved;
 mod scanned;

@@ -162,6 +162,7 @@ pub(crate) fn is_of_matching(class: CautionClass) -> bool
             | CautionClass::Linked
             | CautionClass::Network
             | CautionClass::Bracket
+            | CautionClass::Depends
     )
 }
 
@@ -188,8 +189,8 @@ fn is_same_place(a: Place, b: Place) -> bool
     a.file == b.file && a.line == b.line
 }
 
-// Whether the place before, if any, is the same.
-fn is_at(before: Option<Place>, place: Place) -> bool
+/// Whether the place before, if any, is the same.
+pub(crate) fn is_at(before: Option<Place>, place: Place) -> bool
     ensures { result ≡ cautions.is_at before place }
 {
     match before {

@@ -76,4 +76,12 @@ impl<'a> LookedLists<'a> {
     {
         &self.deciding().lists
     }
+
+    /// Returns those of the lists that decide to examine for notes: no other one of them has one.
+    pub(crate) fn noted_lists(&self) -> &[ScannedList<'a>]
+        ensures { spec.noted_cautions (map scanned_view result.now)
+            ≡ spec.noted_cautions (body.deciding self.now) }
+    {
+        self.deciding().noted()
+    }
 }

@@ -70,4 +70,12 @@ impl<'a> MarkedLists<'a> {
             &self.lists
         }
     }
+
+    /// Returns those of the lists to examine for notes: no other one of them has a command that stands for one.
+    pub(crate) fn noted(&self) -> &[ScannedList<'a>]
+        ensures { spec.noted_cautions (map scanned_view result.now)
+            ≡ spec.noted_cautions (map scanned_view self.now.lists.items) }
+    {
+        &self.marked
+    }
 }
