@@ -128,7 +128,8 @@ module _ (p : Policy) (d : KnownRows) where
               ∙ ap (λ (t : List ℕ). t ++ flat_map own ws) (row-of place users s i w)
 
       asked-places : is_for_user p u users ≡ true → is_for_host p m s.hosts ≡ true → (cs : List (ℕ × CommandSpec))
-          → flat_map (λ c. lines_of p d u m (place_grants p place users s c)) cs ≡ flat_map (place_rows p lists_head (depends_at p place) s.commands) cs
+          → flat_map (λ c. lines_of p d u m (place_grants p place users s c)) cs
+          ≡ flat_map (place_rows p lists_head (depends_at p place) s.commands) cs
       unfolding place_grants
       asked-places for on [] = refl
       asked-places for on ((i, c) ∷ cs) =

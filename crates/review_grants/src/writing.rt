@@ -128,8 +128,8 @@ fn write_table<O: Sink>(alloc: Global, table: Table<'_>, out: &mut O) -> Result<
 /// `place` is `PATH:LINE` of its rule; `users` and `hosts` are the known ones that the lists of the rule and of its section
 /// allow, each as it would stand in a policy, and `ALL` where they allow each; `runas` is the runas in force, its aliases
 /// written out, and empty without one; `sign` is `!` for a command that is denied; `tags` are those in force; `depends` names
-/// the notes at the place of the rule, with a blank between them. Returns `Write` if a write failed, and `Memory` if allocation failed; then the first bytes of the table were
-/// written, and no more.
+/// the notes at the place of the rule, with a blank between them. Returns `Write` if a write failed, and `Memory` if allocation
+/// failed; then the first bytes of the table were written, and no more.
 pub fn write_grants<O: Sink>(
     alloc: Global,
     checked: &Checked,
