@@ -43,6 +43,6 @@ marked-note note ls =
 pub marked-notes : (ls : List MemberList) → noted_cautions (filter list_is_marked ls) ≡ noted_cautions ls
 marked-notes ls =
     let marked : List MemberList = filter list_is_marked ls in
-    ap (λ (found : List Caution). found ++ note_cautions Time marked ++ note_cautions Chroot marked ++ []) (marked-note Digest ls)
-    ∙ ap (λ (found : List Caution). note_cautions Digest ls ++ found ++ note_cautions Chroot marked ++ []) (marked-note Time ls)
-    ∙ ap (λ (found : List Caution). note_cautions Digest ls ++ note_cautions Time ls ++ found ++ []) (marked-note Chroot ls)
+    ap (λ (found : List Caution). found ++ (note_cautions Time marked ++ (note_cautions Chroot marked ++ []))) (marked-note Digest ls)
+    ∙ ap (λ (found : List Caution). note_cautions Digest ls ++ (found ++ (note_cautions Chroot marked ++ []))) (marked-note Time ls)
+    ∙ ap (λ (found : List Caution). note_cautions Digest ls ++ (note_cautions Time ls ++ (found ++ []))) (marked-note Chroot ls)

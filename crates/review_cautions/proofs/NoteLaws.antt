@@ -1,5 +1,5 @@
 -- Paths without an opening bracket stand for no note: lists without marks have none.
-use Rattle.std.proofs.Common.{◌≡◌, ◌∙◌, ◌==◌, ℕ, Bool, true, false, List, [], ◌∷◌, Option, None, Some, ap, cond, refl, sym, arith}
+use Rattle.std.proofs.Common.{◌≡◌, ◌∙◌, ◌==◌, ℕ, Bool, true, false, List, [], ◌∷◌, None, Some, ap, cond, refl, sym, arith}
 use Rattle.std.specs.Prelude.{bytes_eq}
 use Rattle.std.specs.List.{list_all, list_any}
 use Rattle.sudo_base.proofs.IndexLemmas.{bytes_eq-is}
@@ -9,7 +9,7 @@ use Rattle.sudo_grammar.specs.declared.kind.Atom.{Atom}
 use Rattle.sudo_grammar.specs.declared.kind.Atom.TheVariants as atoms
 use Rattle.sudo_grammar.specs.declared.kind.Member.{Member}
 use Rattle.sudo_policy.specs.Definitions.{MemberList}
-use Rattle.review_texts.specs.Notes.{note_in, note_of, note_path}
+use Rattle.review_texts.specs.Notes.{note_of, note_path}
 use Rattle.review_texts.specs.declared.note.Note.{Note}
 use Rattle.review_texts.specs.declared.note.Note.TheVariants.{Digest, Time, Chroot}
 use Rattle.review_cautions.specs.ListTests.{is_of_commands}

@@ -1,5 +1,5 @@
 -- Which lists have a command that stands for a note: for what decides for sudo besides the words of a request.
-use Rattle.std.specs.Prelude.{Bool, true, false, ◌&&◌, Option, None, Some}
+use Rattle.std.specs.Prelude.{Bool, true, false, ◌&&◌, Option, Some}
 use Rattle.std.specs.List.{list_any}
 use Rattle.sudo_grammar.specs.declared.kind.Atom.{Atom}
 use Rattle.sudo_grammar.specs.declared.kind.Member.{Member}
