@@ -1,3 +1,4 @@
 pub mod Heads
 pub mod Noted
 pub mod Pending
+pub mod Who

@@ -1,6 +1,7 @@
-//! The laws of rows and of notes. The functions have no effect: each contract is a law.
+//! The laws of rows, of notes and of the table of who may run a command. The functions have no effect: each contract is a law.
 ghost use Rattle.review_grants.specs.Rows.{RowsApply, LastRowDecides};
 ghost use Rattle.review_grants.specs.Unnoted.{LastHolds, NoneHolds, VerdictHolds};
+ghost use Rattle.review_grants.specs.WhoRows.{UnlistedMayNot};
 
 /// A grant applies if it is a row of its user and host, its runas allows, and its atom matches the command; and the
 /// verdict is that of the last row for which the rest holds.
@@ -16,4 +17,9 @@ pub fn unnoted_verdicts_hold()
     ensures last { LastHolds }
     ensures none { NoneHolds }
     ensures verdict { VerdictHolds }
+{}
+
+/// A user without a record on a host, in the table of who may run a command, is allowed nothing there by that request.
+pub fn unlisted_may_not()
+    ensures { UnlistedMayNot }
 {}

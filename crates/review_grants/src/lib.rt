@@ -10,9 +10,11 @@ mod names;
 mod noted;
 mod rows;
 mod runas_text;
+mod who;
 mod writing;
 
 pub use depends::NotedPlaces;
-pub use laws::{last_row_decides, unnoted_verdicts_hold};
+pub use laws::{last_row_decides, unlisted_may_not, unnoted_verdicts_hold};
 pub use rows::Scope;
+pub use who::{Sought, write_who};
 pub use writing::{Stopped, write_grants};

@@ -18,8 +18,8 @@ use sudo_grammar::Entry;
 use sudo_match::Directory;
 use sudo_policy::Checked;
 
-// The most bytes that wait before they are written.
-const MOST_PENDING: usize = 65_536;
+/// The most bytes that wait before they are written.
+pub(crate) const MOST_PENDING: usize = 65_536;
 
 /// The reason why a table is not written whole.
 #[derive(Clone, Copy, Debug, PartialEq, Eq)]
@@ -41,15 +41,15 @@ impl From<AllocError> for Stopped {
     }
 }
 
-// Records that are made and not yet written, and how many bytes were written before them.
+/// Records that are made and not yet written, and how many bytes were written before them.
 #[derive(Drop)]
 pub(crate) struct Pending {
-    text: Vec<u8>,
-    written: u64,
+    pub(crate) text: Vec<u8>,
+    pub(crate) written: u64,
 }
 
-// Writes the records that wait.
-fn write_pending<O: Sink>(pending: &mut Pending, out: &mut O) -> Result<(), Stopped>
+/// Writes the records that wait.
+pub(crate) fn write_pending<O: Sink>(pending: &mut Pending, out: &mut O) -> Result<(), Stopped>
     ensures written { OnOk result (Empties (O.taken out.old) (O.taken out.new)
         pending.old pending.new) }
     ensures stopped { IfErr result (StopsIn (O.taken out.old) (O.taken out.new) pending.old []) }
