@@ -1,6 +1,6 @@
 -- The table of who may run a command, item by item; and what a missing record tells.
-use Rattle.std.proofs.Common.{◌≡◌, ◌<◌, ◌≤◌, ◌+◌, ◌-◌, ◌^◌, ◌∙◌, ℕ, true, false, cond, List, [], ◌∷◌, ◌++◌, ap, append-nil}
-use Rattle.std.proofs.Common.{append_assoc, arith, drop, flat_map, get_or, length, min, refl, subst, sym, take, Option, Some, None}
+use Rattle.std.proofs.Common.{◌≡◌, ◌<◌, ◌≤◌, ◌+◌, ◌∙◌, ℕ, false, List, [], ◌∷◌, ◌++◌, ap, append-nil}
+use Rattle.std.proofs.Common.{append_assoc, drop, flat_map, get_or, length, refl, subst, sym, take, Option, Some, None}
 use Rattle.std.proofs.lemmas.List.{take-append-drop}
 use Rattle.std.proofs.lemmas.List.Concat.{flat_map-append}
 use Rattle.std.specs.Io.KnownBytes.{Appends}

@@ -1,4 +1,4 @@
-use Rattle.std.proofs.Common.{◌∙◌, ◌++◌, [], ap, refl}
+use Rattle.std.proofs.Common.{◌∙◌, ◌++◌, ℕ, List, [], ap, refl}
 use Rattle.sudo_match.specs.declared.request.Request.{Request}
 use Rattle.sudo_parser.proofs.Steps.{passed-on}
 use Rattle.review_grants.specs.Body.Pending.{StopsIn}
@@ -39,7 +39,7 @@ returns-clause-stopped g c =
     let moved = c.in_ok-set_host.ensures
     ∙ ap (with_host c.args.row.now.request) c.as_slice.ensures
     ∙ request-moved (sought_by j.sought) user c.args.machine.now.name c.args.row.now.request c.requires in
-    let is = c.in_ok-push_request.ensures.text
-    ∙ ap (λ (r : Request). c.args.pending.now.text.items ++ request_line p d r) moved in
+    let is = ◌∙◌ {A = List ℕ} c.in_ok-push_request.ensures.text
+    (ap (λ (r : Request). c.args.pending.now.text.items ++ request_line p d r) moved) in
     if_err c.write_pending.result (StopsIn old new waits []) (StopsIn old new c.args.pending.now own)
     (λ stop. stops-behind old new c.args.pending.now waits own stop is refl) c.write_pending.ensures.stopped

@@ -1,4 +1,4 @@
-use Rattle.std.proofs.Common.{◌≡◌, ◌∙◌, ℕ, List, [], ap, subst, sym}
+use Rattle.std.proofs.Common.{◌≡◌, ◌∙◌, [], ap, subst, sym}
 use Rattle.std.specs.Prelude.{OnOk}
 use Rattle.sudo_match.specs.declared.request.Request.{Request}
 use Rattle.sudo_parser.proofs.Steps.{passed-on}

@@ -1,4 +1,4 @@
-use Rattle.std.proofs.Common.{◌≡◌, ◌+◌, List, arith, flat_map, subst}
+use Rattle.std.proofs.Common.{List, arith, flat_map, subst}
 use Rattle.sudo_parser.proofs.Steps.{passed-on}
 use Rattle.sudo_match.specs.declared.people.Person.{Person}
 use Rattle.review_grants.specs.Body.Pending.{Puts, StopsIn}

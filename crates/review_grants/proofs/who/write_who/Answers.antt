@@ -1,4 +1,4 @@
-use Rattle.std.proofs.Common.{◌≤◌, ℕ, List, append-nil, arith, sym, Option, Some, None}
+use Rattle.std.proofs.Common.{ℕ, List, append-nil, arith, sym, Option, Some, None}
 use Rattle.sudo_parser.proofs.Steps.{passed-on}
 use Rattle.review_grants.specs.WhoRows.{sought_by, who_text}
 use Rattle.review_grants.specs.Writing.{IsStopped}
