@@ -39,7 +39,7 @@ def with_options(text: str, chosen: random.Random) -> str:
 
 
 def with_forms(text: str, chosen: random.Random) -> str:
-    """Returns a policy with options and digests before some of its commands, `list` for some, and a torn Defaults line or none."""
+    """Returns a policy with options and digests before some commands, `list` for some, and a torn Defaults line or none."""
     pieces = pieces_of(text)
     texts = (_with_digest(_or_list(pieces, at, chosen), pieces, at, chosen) for at in range(len(pieces)))
     known = (*OPTIONS, *NOTED)

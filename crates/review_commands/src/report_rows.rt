@@ -135,9 +135,9 @@ fn push_header(text: &mut Vec<u8>) -> Result<(), AllocError>
     text.extend_from_slice(HEADER)
 }
 
-/// Returns the report of requests under a policy, whose notes these are, as CSV, with the request beside each answer: the header `sender,number,user,host,runas_user,
-/// runas_group,command,arguments,verdict,place,tags,depends`, then for each sender a record for each of its answers, in their
-/// order.
+/// Returns the report of requests under a policy, whose notes these are, as CSV, with the request beside each answer: the
+/// header `sender,number,user,host,runas_user,runas_group,command,arguments,verdict,place,tags,depends`, then for each sender a
+/// record for each of its answers, in their order.
 ///
 /// `place` is `PATH:LINE` of the grant that decided, and empty but for `allow` and `deny`; `tags` is empty but for `allow`;
 /// `depends` names what the grants at the place depend on. Returns `AllocError` if allocation failed.

@@ -54,7 +54,8 @@ pub block_before : (noted : Bool) (line : Line) (lines : List Line) (bytes rest 
     → after ≡ drop (length (written line rest)) rest → IsBlock noted line bytes block → AreBlocks noted lines after tail
     → AreBlocks noted (line ∷ lines) rest (block ++ tail)
 block_before noted line lines bytes rest after block tail front back is are =
-    (block, tail, subst (λ (b : List ℕ). IsBlock noted line b block) front is, subst (λ (r : List ℕ). AreBlocks noted lines r tail) back are, refl)
+    (block, tail, subst (λ (b : List ℕ). IsBlock noted line b block) front is,
+    subst (λ (r : List ℕ). AreBlocks noted lines r tail) back are, refl)
 
 -- A block is appended.
 pub pushed : {A E : Type 0} (noted : Bool) (r : Result A E) (line : Line) (bytes block old new : List ℕ) → IsBlock noted line bytes block
@@ -81,7 +82,8 @@ pub along_more : (noted : Bool) (lines left more : List Line) (line : Line) (tex
     → after ≡ drop (length (written line rest)) rest
     → ((block : List ℕ) × IsBlock noted line bytes block × (longer ≡ masked ++ block)) → Along noted lines text more after longer
 along_more noted lines left more line text rest bytes after masked longer along cut front back (block, is, pushed) = λ tail are.
-    let all : AreBlocks noted (line ∷ more) rest (block ++ tail) = block_before noted line more bytes rest after block tail front back is are in
+    let all : AreBlocks noted (line ∷ more) rest (block ++ tail) =
+    block_before noted line more bytes rest after block tail front back is are in
     let whole : AreBlocks noted lines text (masked ++ (block ++ tail)) =
     along (block ++ tail) (subst (λ (ls : List Line). AreBlocks noted ls rest (block ++ tail)) (sym cut) all) in
     let same : masked ++ (block ++ tail) ≡ longer ++ tail =

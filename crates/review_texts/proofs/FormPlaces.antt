@@ -14,7 +14,8 @@ use Rattle.sudo_grammar.specs.Words.{is_name_byte}
 use Rattle.sudo_grammar.specs.declared.fault.Unsupported.{Unsupported}
 use Rattle.sudo_grammar.specs.declared.fault.Unsupported.TheVariants as forms
 use Rattle.review_texts.specs.declared.mask.Mask.{Mask}
-use Rattle.review_texts.specs.Digests.{digest_size, digest_start, digest_at, digest_stop, is_digest, may_follow as digest_may_follow, spells_digest}
+use Rattle.review_texts.specs.Digests.{digest_size, digest_start, digest_at, digest_stop, is_digest}
+use Rattle.review_texts.specs.Digests.{may_follow as digest_may_follow, spells_digest}
 use Rattle.review_texts.specs.Options.{is_option, name_at, equals_of, value_of, value_at, option_end, takes, spells_option}
 use Rattle.review_texts.specs.Places.{IsRefusedFor, spells_list, may_follow}
 use Rattle.review_texts.specs.Masks.{Stands, is_fit, IsFirstStand, IsMask, IsUnmasked, IsBehind, behind}
@@ -65,14 +66,16 @@ no_digest text at none spelled =
     subst (λ (xs : List ℕ). nat_lt 0 (digest_size xs) ≡ true) none third.0 in
     true≢false (sym empty)
 
-no_stand : (noted : Bool) (line : Line) (form : Unsupported) (start end : ℕ) → drop start line.text ≡ [] → Stands noted line form start end → ⊥
+no_stand : (noted : Bool) (line : Line) (form : Unsupported) (start end : ℕ) → drop start line.text ≡ []
+    → Stands noted line form start end → ⊥
 no_stand noted line forms.CommandOption start end none stands = no_option noted line.text start none stands.0.spelled
 no_stand noted line forms.List start end none stands = no_list line.text start none stands.0.spelled
 no_stand noted line forms.Digest start end none stands = no_digest line.text start none stands.1.spelled
 no_stand noted line _ start end none stands = stands
 
 -- A form stands within the line.
-pub stands_within : (noted : Bool) (line : Line) (form : Unsupported) (start end : ℕ) → Stands noted line form start end → start < length line.text
+pub stands_within : (noted : Bool) (line : Line) (form : Unsupported) (start end : ℕ) → Stands noted line form start end
+    → start < length line.text
 stands_within noted line form start end stands = elim (cases_lt start (length line.text)) [
   | inl below ↦ below
   | inr past ↦ absurd (no_stand noted line form start end (drop_of_length-le line.text past) stands)
@@ -86,7 +89,8 @@ pub unrefused : (noted : Bool) (line : Line) → ((form : Unsupported) → IsRef
 unrefused noted line none mask is = none mask.form is.refused
 
 abbrev pub FoundStand : Bool → Line → Unsupported → Option Mask → Type 0
-FoundStand noted line form found = MatchOption found ((start end : ℕ) → Stands noted line form start end → ⊥) (λ mask. IsFirstStand noted line form mask)
+FoundStand noted line form found =
+    MatchOption found ((start end : ℕ) → Stands noted line form start end → ⊥) (λ mask. IsFirstStand noted line form mask)
 
 pub masked_by : (noted : Bool) (line : Line) (form : Unsupported) (found : Option Mask) → is_fit line ≡ true → IsRefusedFor line form
     → FoundStand noted line form found → MatchOption found (IsUnmasked noted line) (λ mask. IsMask noted line mask)

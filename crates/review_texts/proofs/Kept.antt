@@ -31,7 +31,8 @@ read_alone before line (Some entry) (t, ts, spelled, writes) =
     (t, ts, spelled, (writes.0, whole_fits before entry writes.1))
 
 -- A line that is read has no mask.
-unmasked : (noted : Bool) (before : List Entry) (line : Line) (entry : Option EntryBody) → IsEntryOf (room_after before) line entry → IsUnmasked noted line
+unmasked : (noted : Bool) (before : List Entry) (line : Line) (entry : Option EntryBody)
+    → IsEntryOf (room_after before) line entry → IsUnmasked noted line
 unmasked noted before line entry is mask masks =
     read_unrefused line (entry_of line entry ++ []) mask.form
     (entry, [], read_alone before line entry is, refl, refl) masks.refused
@@ -40,7 +41,8 @@ has_entries : (before : List Entry) (line : Line) (entry : Option EntryBody) →
     → HasEntries line
 has_entries before line entry is = (entry_of line entry ++ [], (entry, [], read_alone before line entry is, refl, refl))
 
-block_kept : (noted : Bool) (line : Line) (bytes block : List ℕ) → IsUnmasked noted line → HasEntries line → IsBlock noted line bytes block → block ≡ bytes
+block_kept : (noted : Bool) (line : Line) (bytes block : List ℕ) → IsUnmasked noted line → HasEntries line
+    → IsBlock noted line bytes block → block ≡ bytes
 block_kept noted line bytes block none read (inl (other, inl ((torn, plain, (unread, spaced)), same))) = absurd (unread read)
 block_kept noted line bytes block none read (inl (other, inr kept)) = kept.1
 block_kept noted line bytes block none read (inr (masked, (mask, is, rest), whole)) = absurd (none mask is)

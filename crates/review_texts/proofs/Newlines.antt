@@ -16,7 +16,8 @@ use Rattle.review_texts.specs.declared.mask.Mask.{Mask}
 use Rattle.review_texts.specs.declared.note.Note.{Note}
 use Rattle.review_texts.specs.declared.note.Note.TheVariants.{Digest, Time, Chroot}
 use Rattle.review_texts.specs.Options.{name_at}
-use Rattle.review_texts.specs.Masks.{are_alike, is_fit, newline_count, option_note, note_text, stand_in, replacement, behind, IsBehind, IsMasked, most_masks}
+use Rattle.review_texts.specs.Masks.{are_alike, is_fit, newline_count, option_note, note_text, stand_in, replacement}
+use Rattle.review_texts.specs.Masks.{behind, IsBehind, IsMasked, most_masks}
 use Rattle.review_texts.specs.MaskedTexts.{written, tears_defaults, spaced, IsBlock, AreBlocks, IsTextBy, IsMaskedBy, IsMaskedText}
 use Rattle.review_texts.specs.Words.{has_word}
 use Rattle.review_texts.specs.Laws.{StaysBy}
@@ -69,7 +70,8 @@ behind_count line mask none =
     let middle = count_replaced line.text mask in
     omega (arith, front, back, first, second, outer, inner, middle)
 
-all_behind : (noted : Bool) (n : ℕ) (line masked : Line) → newline_count line.text ≡ 0 → IsBehind noted n line masked → newline_count masked.text ≡ 0
+all_behind : (noted : Bool) (n : ℕ) (line masked : Line) → newline_count line.text ≡ 0 → IsBehind noted n line masked
+    → newline_count masked.text ≡ 0
 unfolding IsBehind
 all_behind noted zero line masked none is = ap (λ (l : Line). newline_count l.text) is ∙ none
 all_behind noted (suc n) line masked none (inl kept) = ap (λ (l : Line). newline_count l.text) kept.1 ∙ none
@@ -101,7 +103,8 @@ spaced_count line none =
     let put = count_append (take 8 line.text) (32 ∷ drop 8 line.text) in
     omega (arith, none, whole, cut, put)
 
-block_count : (noted : Bool) (line : Line) (bytes block : List ℕ) → IsBlock noted line bytes block → newline_count block ≡ newline_count bytes
+block_count : (noted : Bool) (line : Line) (bytes block : List ℕ) → IsBlock noted line bytes block
+    → newline_count block ≡ newline_count bytes
 block_count noted line bytes block (inl (none, inr kept)) = ap (λ (xs : List ℕ). newline_count xs) kept.1
 block_count noted line bytes block (inl (none, inl spaces)) =
     let text = spaced_count line (torn_count line.text line.joins spaces.0.0) in

@@ -13,7 +13,8 @@ use Rattle.review_texts.specs.MaskedTexts.{written, IsBlock, IsBlockBy, IsPlainB
 use Rattle.review_texts.specs.Words.{has_word}
 use Rattle.review_texts.proofs.LoneLines.{one_form}
 
-one_end : (noted : Bool) (line : Line) (form : Unsupported) (start a b : ℕ) → Stands noted line form start a → Stands noted line form start b → a ≡ b
+one_end : (noted : Bool) (line : Line) (form : Unsupported) (start a b : ℕ) → Stands noted line form start a
+    → Stands noted line form start b → a ≡ b
 one_end noted line forms.CommandOption start a b (stands, is) (other, same) = is ∙ sym same
 one_end noted line forms.List start a b (stands, is) (other, same) = is ∙ sym same
 one_end noted line forms.Digest start a b (on, stands, is) (again, other, same) = is ∙ sym same

@@ -1,5 +1,6 @@
--- The options of a command, as sudoers(5), "Option_Spec", has them: a name, `=` and a value. The values are those that each build of sudo takes as one word: unquoted, without escapes, and not a word
--- of sudoers itself. Any other value is left to be refused.
+-- The options of a command, as sudoers(5), "Option_Spec", has them: a name, `=` and a value. The values are those that each
+-- build of sudo takes as one word: unquoted, without escapes, and not a word of sudoers itself. Any other value is left to be
+-- refused.
 use Rattle.std.specs.Prelude.{ℕ, ◌+◌, ◌-◌, Bool, not, ◌&&◌, ◌||◌, ◌==◌, nat_le, nat_lt, if◌then◌else◌, List, [], ◌∷◌}
 use Rattle.std.specs.Prelude.{length, drop, slice_index, codes}
 use Rattle.std.specs.List.{list_any, take_while}
