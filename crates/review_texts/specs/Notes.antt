@@ -1,6 +1,6 @@
 -- What decides for sudo besides the words of a request: the digest of a command's file, the time, another root. It is not
 -- judged. In a masked text a command that fits nothing stands for it, in the list before the first command that it is about.
-use Rattle.std.specs.Prelude.{ℕ, ◌&&◌, List, [], ◌∷◌, codes, find, if◌then◌else◌, Option, None, Some}
+use Rattle.std.specs.Prelude.{ℕ, List, [], ◌∷◌, codes, find, if◌then◌else◌, Option, None}
 use Rattle.std.specs.Str.{bytes_eq}
 use Rattle.sudo_text.specs.declared.token.Ch.{Ch}
 use Rattle.sudo_grammar.specs.declared.kind.Atom.{Atom}
