@@ -56,6 +56,9 @@ class Tables(TableCase):
     def test_table_subjects(self) -> None:
         self.check_table("subjects")
 
+    def test_table_who(self) -> None:
+        self.check_table("who")
+
 
 def classes_of_source() -> dict[str, str]:
     """Returns the classes that the definitions of the program list, in their order, with their texts."""

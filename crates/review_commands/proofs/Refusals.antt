@@ -1,5 +1,6 @@
 -- Words that ask for no command.
-use Rattle.std.proofs.Common.{◌≡◌, ◌<◌, ◌∙◌, ◌∷◌, ap, ℕ, zero, suc, List, [], Option, Some, None, Bor, codes, get_or, inl, inr, length, map}
+use Rattle.std.proofs.Common.{◌≡◌, ◌<◌, ◌∙◌, ◌∷◌, ap, ℕ, zero, suc, true, false, List, [], Option, Some, None, Bor, codes}
+use Rattle.std.proofs.Common.{get_or, inl, inr, length, map}
 use Rattle.std.proofs.Common.{refl, sym, arith}
 use Rattle.std.specs.Prelude.{◌≢◌, unwrap_or}
 use Rattle.clap.specs.Words.{Row, Text, all_of, first_of}
@@ -9,8 +10,10 @@ use Rattle.review_cautions.specs.declared.class.CautionClass.{CautionClass}
 use Rattle.review_commands.specs.declared.request.PairPaths.{PairPaths}
 use Rattle.review_commands.specs.declared.request.Paths.{Paths}
 use Rattle.review_commands.specs.declared.request.Asked.TheVariants.{Cautions, Changes, Check, Compare, Grants, Report, Roots, Rules}
-use Rattle.review_commands.specs.declared.request.Asked.TheVariants.{Subjects}
-use Rattle.review_commands.specs.Body.Paths.{LackPair, LackPaths}
+use Rattle.review_commands.specs.declared.request.Asked.TheVariants.{Subjects, Who}
+use Rattle.std.proofs.lemmas.Bool.{true≢false}
+use Rattle.audit_files.specs.Requests.{is_command}
+use Rattle.review_commands.specs.Body.Paths.{LackCommand, LackPair, LackPaths}
 use Rattle.review_commands.specs.Words.{AsksNothing, HavePair, HavePaths}
 
 -- names that differ at a place
@@ -104,27 +107,56 @@ check_is_rules = differ_at 2 (codes "check") (codes "rules") 101 108 refl refl (
 check_is_compare : codes "check" ≡ codes "compare" → ⊥
 check_is_compare = differ_at 2 (codes "check") (codes "compare") 101 109 refl refl (omega arith)
 
+-- and the first letter of `who` from theirs
+cautions_is_who : codes "cautions" ≡ codes "who" → ⊥
+cautions_is_who = differ_at 0 (codes "cautions") (codes "who") 99 119 refl refl (omega arith)
+
+report_is_who : codes "report" ≡ codes "who" → ⊥
+report_is_who = differ_at 0 (codes "report") (codes "who") 114 119 refl refl (omega arith)
+
+grants_is_who : codes "grants" ≡ codes "who" → ⊥
+grants_is_who = differ_at 0 (codes "grants") (codes "who") 103 119 refl refl (omega arith)
+
+roots_is_who : codes "roots" ≡ codes "who" → ⊥
+roots_is_who = differ_at 0 (codes "roots") (codes "who") 114 119 refl refl (omega arith)
+
+subjects_is_who : codes "subjects" ≡ codes "who" → ⊥
+subjects_is_who = differ_at 0 (codes "subjects") (codes "who") 115 119 refl refl (omega arith)
+
+rules_is_who : codes "rules" ≡ codes "who" → ⊥
+rules_is_who = differ_at 0 (codes "rules") (codes "who") 114 119 refl refl (omega arith)
+
+compare_is_who : codes "compare" ≡ codes "who" → ⊥
+compare_is_who = differ_at 0 (codes "compare") (codes "who") 99 119 refl refl (omega arith)
+
+check_is_who : codes "check" ≡ codes "who" → ⊥
+check_is_who = differ_at 0 (codes "check") (codes "who") 99 119 refl refl (omega arith)
+
 none_there : (o : Option Text) (text : Text) → o ≡ None → o ≡ Some text → ⊥
 none_there o text none there = cc
 
 pub no_name : (name : Text) (rows : List Row) → name ≢ codes "check" → name ≢ codes "cautions" → name ≢ codes "report"
     → name ≢ codes "grants" → name ≢ codes "compare" → name ≢ codes "roots" → name ≢ codes "subjects" → name ≢ codes "rules"
-    → AsksNothing (name, rows)
-no_name name rows check cautions report grants compare roots subjects rules (Check policy) stated fit = check stated.0
-no_name name rows check cautions report grants compare roots subjects rules (Cautions policy links without) stated fit = cautions stated.0
-no_name name rows check cautions report grants compare roots subjects rules (Report paths workers senders) stated fit = report stated.0
-no_name name rows check cautions report grants compare roots subjects rules (Grants paths user host) stated fit = grants stated.0
-no_name name rows check cautions report grants compare roots subjects rules (Compare paths user host) stated fit = compare stated.0
-no_name name rows check cautions report grants compare roots subjects rules (Changes paths senders) stated fit = compare stated.0
-no_name name rows check cautions report grants compare roots subjects rules (Roots paths all) stated fit = roots stated.0
-no_name name rows check cautions report grants compare roots subjects rules (Subjects paths) stated fit = subjects stated.0
-no_name name rows check cautions report grants compare roots subjects rules (Rules paths workers senders) stated fit = rules stated.0
+    → name ≢ codes "who" → AsksNothing (name, rows)
+no_name name rows check cautions report grants compare roots subjects rules who (Check policy) stated fit = check stated.0
+no_name name rows check cautions report grants compare roots subjects rules who (Cautions policy links without) stated fit =
+    cautions stated.0
+no_name name rows check cautions report grants compare roots subjects rules who (Report paths workers senders) stated fit = report stated.0
+no_name name rows check cautions report grants compare roots subjects rules who (Grants paths user host) stated fit = grants stated.0
+no_name name rows check cautions report grants compare roots subjects rules who (Who paths command arguments runas) stated fit =
+    who stated.0
+no_name name rows check cautions report grants compare roots subjects rules who (Compare paths user host) stated fit = compare stated.0
+no_name name rows check cautions report grants compare roots subjects rules who (Changes paths senders) stated fit = compare stated.0
+no_name name rows check cautions report grants compare roots subjects rules who (Roots paths all) stated fit = roots stated.0
+no_name name rows check cautions report grants compare roots subjects rules who (Subjects paths) stated fit = subjects stated.0
+no_name name rows check cautions report grants compare roots subjects rules who (Rules paths workers senders) stated fit = rules stated.0
 
 pub check_without_file : (rows : List Row) → first_of (codes "file") rows ≡ None → AsksNothing (codes "check", rows)
 check_without_file rows none (Check policy) stated fit = none_there _ _ none stated.1.file_is
 check_without_file rows none (Cautions policy links without) stated fit = check_is_cautions stated.0
 check_without_file rows none (Report paths workers senders) stated fit = check_is_report stated.0
 check_without_file rows none (Grants paths user host) stated fit = grants_is_check (sym stated.0)
+check_without_file rows none (Who paths command arguments runas) stated fit = check_is_who stated.0
 check_without_file rows none (Compare paths user host) stated fit = check_is_compare stated.0
 check_without_file rows none (Changes paths senders) stated fit = check_is_compare stated.0
 check_without_file rows none (Roots paths all) stated fit = check_is_roots stated.0
@@ -136,6 +168,7 @@ cautions_without_file rows none (Check policy) stated fit = check_is_cautions (s
 cautions_without_file rows none (Cautions policy links without) stated fit = none_there _ _ none stated.1.file_is
 cautions_without_file rows none (Report paths workers senders) stated fit = report_is_cautions (sym stated.0)
 cautions_without_file rows none (Grants paths user host) stated fit = grants_is_cautions (sym stated.0)
+cautions_without_file rows none (Who paths command arguments runas) stated fit = cautions_is_who stated.0
 cautions_without_file rows none (Compare paths user host) stated fit = compare_is_cautions (sym stated.0)
 cautions_without_file rows none (Changes paths senders) stated fit = compare_is_cautions (sym stated.0)
 cautions_without_file rows none (Roots paths all) stated fit = roots_is_cautions (sym stated.0)
@@ -156,6 +189,7 @@ report_without_paths rows lack (Check policy) stated fit = check_is_report (sym 
 report_without_paths rows lack (Cautions policy links without) stated fit = report_is_cautions stated.0
 report_without_paths rows lack (Report paths workers senders) stated fit = have_or_lack _ _ lack stated.1
 report_without_paths rows lack (Grants paths user host) stated fit = grants_is_report (sym stated.0)
+report_without_paths rows lack (Who paths command arguments runas) stated fit = report_is_who stated.0
 report_without_paths rows lack (Compare paths user host) stated fit = compare_is_report (sym stated.0)
 report_without_paths rows lack (Changes paths senders) stated fit = compare_is_report (sym stated.0)
 report_without_paths rows lack (Roots paths all) stated fit = roots_is_report (sym stated.0)
@@ -167,6 +201,7 @@ grants_without_paths rows lack (Check policy) stated fit = grants_is_check state
 grants_without_paths rows lack (Cautions policy links without) stated fit = grants_is_cautions stated.0
 grants_without_paths rows lack (Report paths workers senders) stated fit = grants_is_report stated.0
 grants_without_paths rows lack (Grants paths user host) stated fit = have_or_lack _ _ lack stated.1
+grants_without_paths rows lack (Who paths command arguments runas) stated fit = grants_is_who stated.0
 grants_without_paths rows lack (Compare paths user host) stated fit = grants_is_compare stated.0
 grants_without_paths rows lack (Changes paths senders) stated fit = grants_is_compare stated.0
 grants_without_paths rows lack (Roots paths all) stated fit = grants_is_roots stated.0
@@ -178,6 +213,7 @@ roots_without_paths rows lack (Check policy) stated fit = check_is_roots (sym st
 roots_without_paths rows lack (Cautions policy links without) stated fit = roots_is_cautions stated.0
 roots_without_paths rows lack (Report paths workers senders) stated fit = roots_is_report stated.0
 roots_without_paths rows lack (Grants paths user host) stated fit = grants_is_roots (sym stated.0)
+roots_without_paths rows lack (Who paths command arguments runas) stated fit = roots_is_who stated.0
 roots_without_paths rows lack (Compare paths user host) stated fit = compare_is_roots (sym stated.0)
 roots_without_paths rows lack (Changes paths senders) stated fit = compare_is_roots (sym stated.0)
 roots_without_paths rows lack (Roots paths all) stated fit = have_or_lack _ _ lack stated.1
@@ -189,6 +225,7 @@ subjects_without_paths rows lack (Check policy) stated fit = subjects_is_check s
 subjects_without_paths rows lack (Cautions policy links without) stated fit = subjects_is_cautions stated.0
 subjects_without_paths rows lack (Report paths workers senders) stated fit = subjects_is_report stated.0
 subjects_without_paths rows lack (Grants paths user host) stated fit = grants_is_subjects (sym stated.0)
+subjects_without_paths rows lack (Who paths command arguments runas) stated fit = subjects_is_who stated.0
 subjects_without_paths rows lack (Compare paths user host) stated fit = subjects_is_compare stated.0
 subjects_without_paths rows lack (Changes paths senders) stated fit = subjects_is_compare stated.0
 subjects_without_paths rows lack (Roots paths all) stated fit = subjects_is_roots stated.0
@@ -200,11 +237,47 @@ rules_without_paths rows lack (Check policy) stated fit = check_is_rules (sym st
 rules_without_paths rows lack (Cautions policy links without) stated fit = rules_is_cautions stated.0
 rules_without_paths rows lack (Report paths workers senders) stated fit = rules_is_report stated.0
 rules_without_paths rows lack (Grants paths user host) stated fit = grants_is_rules (sym stated.0)
+rules_without_paths rows lack (Who paths command arguments runas) stated fit = rules_is_who stated.0
 rules_without_paths rows lack (Compare paths user host) stated fit = rules_is_compare stated.0
 rules_without_paths rows lack (Changes paths senders) stated fit = rules_is_compare stated.0
 rules_without_paths rows lack (Roots paths all) stated fit = rules_is_roots stated.0
 rules_without_paths rows lack (Subjects paths) stated fit = subjects_is_rules (sym stated.0)
 rules_without_paths rows lack (Rules paths workers senders) stated fit = have_or_lack _ _ lack stated.1
+
+same_text_of : (a b : Text) → Some a ≡ Some b → a ≡ b
+same_text_of a b e = cc
+
+no_command : (a b : Text) → Some a ≡ Some b → is_command a ≡ false → is_command b ≡ true → ⊥
+no_command a b same bad good = true≢false (sym good ∙ (sym (ap is_command (same_text_of a b same)) ∙ bad))
+
+pub who_without_words : (rows : List Row) → LackCommand rows → AsksNothing (codes "who", rows)
+who_without_words rows lack (Check policy) stated fit = check_is_who (sym stated.0)
+who_without_words rows lack (Cautions policy links without) stated fit = cautions_is_who (sym stated.0)
+who_without_words rows lack (Report paths workers senders) stated fit = report_is_who (sym stated.0)
+who_without_words rows lack (Grants paths user host) stated fit = grants_is_who (sym stated.0)
+who_without_words rows lack (Compare paths user host) stated fit = compare_is_who (sym stated.0)
+who_without_words rows lack (Changes paths senders) stated fit = compare_is_who (sym stated.0)
+who_without_words rows lack (Roots paths all) stated fit = roots_is_who (sym stated.0)
+who_without_words rows lack (Subjects paths) stated fit = subjects_is_who (sym stated.0)
+who_without_words rows lack (Rules paths workers senders) stated fit = rules_is_who (sym stated.0)
+who_without_words rows lack (Who paths command arguments runas) stated fit = elim lack [
+  | inl paths_lack ↦ have_or_lack _ _ paths_lack stated.1
+  | inr none ↦ none_there _ _ none stated.2
+]
+
+-- the path of a command is none
+pub who_of_bad_command : (rows : List Row) (text : Text) → first_of (codes "command") rows ≡ Some text → is_command text ≡ false
+    → AsksNothing (codes "who", rows)
+who_of_bad_command rows text is bad (Check policy) stated fit = check_is_who (sym stated.0)
+who_of_bad_command rows text is bad (Cautions policy links without) stated fit = cautions_is_who (sym stated.0)
+who_of_bad_command rows text is bad (Report paths workers senders) stated fit = report_is_who (sym stated.0)
+who_of_bad_command rows text is bad (Grants paths user host) stated fit = grants_is_who (sym stated.0)
+who_of_bad_command rows text is bad (Compare paths user host) stated fit = compare_is_who (sym stated.0)
+who_of_bad_command rows text is bad (Changes paths senders) stated fit = compare_is_who (sym stated.0)
+who_of_bad_command rows text is bad (Roots paths all) stated fit = roots_is_who (sym stated.0)
+who_of_bad_command rows text is bad (Subjects paths) stated fit = subjects_is_who (sym stated.0)
+who_of_bad_command rows text is bad (Rules paths workers senders) stated fit = rules_is_who (sym stated.0)
+who_of_bad_command rows text is bad (Who paths command arguments runas) stated fit = no_command text _ (sym is ∙ stated.2) bad stated.3
 
 have_or_lack_pair : (rows : List Row) (paths : PairPaths) → LackPair rows → HavePair rows paths → ⊥
 have_or_lack_pair rows paths lack have = elim lack [
@@ -223,6 +296,7 @@ compare_without_paths rows lack (Check policy) stated fit = check_is_compare (sy
 compare_without_paths rows lack (Cautions policy links without) stated fit = compare_is_cautions stated.0
 compare_without_paths rows lack (Report paths workers senders) stated fit = compare_is_report stated.0
 compare_without_paths rows lack (Grants paths user host) stated fit = grants_is_compare (sym stated.0)
+compare_without_paths rows lack (Who paths command arguments runas) stated fit = compare_is_who stated.0
 compare_without_paths rows lack (Compare paths user host) stated fit = have_or_lack_pair _ _ lack stated.1
 compare_without_paths rows lack (Changes paths senders) stated fit = have_or_lack_pair _ _ lack stated.1
 compare_without_paths rows lack (Roots paths all) stated fit = compare_is_roots stated.0
@@ -241,6 +315,7 @@ requests_in_scope rows words are some scoped (Check policy) stated fit = check_i
 requests_in_scope rows words are some scoped (Cautions policy links without) stated fit = compare_is_cautions stated.0
 requests_in_scope rows words are some scoped (Report paths workers senders) stated fit = compare_is_report stated.0
 requests_in_scope rows words are some scoped (Grants paths user host) stated fit = grants_is_compare (sym stated.0)
+requests_in_scope rows words are some scoped (Who paths command arguments runas) stated fit = compare_is_who stated.0
 requests_in_scope rows words are some scoped (Compare paths user host) stated fit = some (no_words words (sym are ∙ stated.4))
 requests_in_scope rows words are some scoped (Changes paths senders) stated fit = scoped stated.2 stated.3
 requests_in_scope rows words are some scoped (Roots paths all) stated fit = compare_is_roots stated.0
@@ -252,6 +327,7 @@ rules_without_workers rows none (Check policy) stated fit = check_is_rules (sym 
 rules_without_workers rows none (Cautions policy links without) stated fit = rules_is_cautions stated.0
 rules_without_workers rows none (Report paths workers senders) stated fit = rules_is_report stated.0
 rules_without_workers rows none (Grants paths user host) stated fit = grants_is_rules (sym stated.0)
+rules_without_workers rows none (Who paths command arguments runas) stated fit = rules_is_who stated.0
 rules_without_workers rows none (Compare paths user host) stated fit = rules_is_compare stated.0
 rules_without_workers rows none (Changes paths senders) stated fit = rules_is_compare stated.0
 rules_without_workers rows none (Roots paths all) stated fit = rules_is_roots stated.0
@@ -263,6 +339,7 @@ report_without_workers rows none (Check policy) stated fit = check_is_report (sy
 report_without_workers rows none (Cautions policy links without) stated fit = report_is_cautions stated.0
 report_without_workers rows none (Report paths workers senders) stated fit = none workers stated.2 fit.0 fit.1
 report_without_workers rows none (Grants paths user host) stated fit = grants_is_report (sym stated.0)
+report_without_workers rows none (Who paths command arguments runas) stated fit = report_is_who stated.0
 report_without_workers rows none (Compare paths user host) stated fit = compare_is_report (sym stated.0)
 report_without_workers rows none (Changes paths senders) stated fit = compare_is_report (sym stated.0)
 report_without_workers rows none (Roots paths all) stated fit = roots_is_report (sym stated.0)
@@ -276,6 +353,7 @@ cautions_of_bad_class rows words are bad (Check policy) stated fit = check_is_ca
 cautions_of_bad_class rows words are bad (Cautions policy links without) stated fit = bad without.items (sym stated.3 ∙ are)
 cautions_of_bad_class rows words are bad (Report paths workers senders) stated fit = report_is_cautions (sym stated.0)
 cautions_of_bad_class rows words are bad (Grants paths user host) stated fit = grants_is_cautions (sym stated.0)
+cautions_of_bad_class rows words are bad (Who paths command arguments runas) stated fit = cautions_is_who stated.0
 cautions_of_bad_class rows words are bad (Compare paths user host) stated fit = compare_is_cautions (sym stated.0)
 cautions_of_bad_class rows words are bad (Changes paths senders) stated fit = compare_is_cautions (sym stated.0)
 cautions_of_bad_class rows words are bad (Roots paths all) stated fit = roots_is_cautions (sym stated.0)

@@ -23,6 +23,7 @@ use Rattle.review_commands.specs.Reviewing.{AreCautions}
 use Rattle.review_commands.specs.declared.fault.TableFault.{TableFault}
 use Rattle.review_commands.specs.declared.fault.TableFault.TheVariants as tables
 use Rattle.review_grants.specs.GrantRows.{grants_text}
+use Rattle.review_grants.specs.WhoRows.{Sought, who_text}
 use Rattle.review_subjects.specs.Subjects.{policy_subjects}
 use Rattle.review_commands.specs.SubjectRows.{subjects_status, subjects_text}
 
@@ -74,6 +75,12 @@ pub record AreGrants (user host : Option (List ℕ)) (p : Policy) (d : KnownRows
   pub text_is : text ≡ grants_text p d person machine
   pub status_is : status ≡ 0
 
+-- the table of who may run a command, with status 0; the user to run it as, where one is asked for, is known
+pub record IsWho (sought : Sought) (p : Policy) (d : KnownRows) (text : List ℕ) (status : ℕ) : Type 0 where
+  pub known : IsSome (looked_up (user_named d) sought.target)
+  pub text_is : text ≡ who_text p d sought
+  pub status_is : status ≡ 0
+
 -- the table of what reaches nobody, with status 5 if it has a row
 abbrev pub AreSubjects : Table
 AreSubjects p d text status =
@@ -96,7 +103,8 @@ pub record LacksHost (given : Inputs) (user host : Option (List ℕ)) (name : Li
   pub user_known : IsSome (looked_up (user_named directory) user)
   pub lacks : host_named directory name ≡ None
 
--- why there is no table of grants: as for every table; or no known user or host has the name that is given
+-- why there is no table of grants, nor one of who may run a command: as for every table; or no known user or host has the
+-- name that is given
 abbrev pub IsNotGranted : Inputs → Option (List ℕ) → Option (List ℕ) → TableFault → Type 0
 IsNotGranted given user host (tables.Policy fault) = IsNotSurveyed given (tables.Policy fault)
 IsNotGranted given user host (tables.Directory fault) = IsNotSurveyed given (tables.Directory fault)

@@ -11,7 +11,8 @@ use Rattle.review_commands.specs.declared.request.PairPaths.{PairPaths}
 use Rattle.review_commands.specs.declared.request.Paths.{Paths}
 use Rattle.review_commands.specs.declared.request.PolicyPath.{PolicyPath}
 use Rattle.review_commands.specs.declared.request.Asked.TheVariants.{Cautions, Changes, Check, Compare, Grants, Report}
-use Rattle.review_commands.specs.declared.request.Asked.TheVariants.{Roots, Rules, Subjects}
+use Rattle.review_commands.specs.declared.request.Asked.TheVariants.{Roots, Rules, Subjects, Who}
+use Rattle.audit_files.specs.Requests.{is_command}
 
 -- --without CLASS, any number of times
 abbrev pub without_rule : Rule
@@ -40,6 +41,11 @@ paths_app name = with_rule (with_rule (policy_app name) (required_option (codes 
 -- grants FILE [--root DIR] --users F --hosts F [--user NAME] [--host NAME]
 abbrev pub grants_app : App
 grants_app = with_rule (with_rule (paths_app (codes "grants")) (name_rule (codes "user"))) (name_rule (codes "host"))
+
+-- who FILE [--root DIR] --users F --hosts F --command PATH [--arguments TEXT] [--runas USER]
+abbrev pub who_app : App
+who_app = with_rule (with_rule (with_rule (paths_app (codes "who")) (required_option (codes "command")))
+    (name_rule (codes "arguments"))) (name_rule (codes "runas"))
 
 -- compare OLD NEW --users F --hosts F
 abbrev pub pair_app : App
@@ -73,8 +79,8 @@ named_app = on_top (λ s. record s { has_version = true; subcommand_required = t
 -- the program's command, with its subcommands
 abbrev pub program_app : App
 program_app = with_subcommand (with_subcommand (with_subcommand (with_subcommand (with_subcommand (with_subcommand (with_subcommand
-    (with_subcommand named_app (policy_app (codes "check")).top) cautions_app.top) (judging_app (codes "report")).top) grants_app.top)
-    roots_app.top) (paths_app (codes "subjects")).top) (judging_app (codes "rules")).top) compare_app.top
+    (with_subcommand (with_subcommand named_app (policy_app (codes "check")).top) cautions_app.top) (judging_app (codes "report")).top)
+    grants_app.top) who_app.top) roots_app.top) (paths_app (codes "subjects")).top) (judging_app (codes "rules")).top) compare_app.top
 
 -- the rows hold the main file of a policy, and the folder below which its files are, if one is given
 pub record HavePolicy (rows : List Row) (policy : PolicyPath) : Type 0 where
@@ -108,6 +114,11 @@ HoldsCommand (Cautions policy links without) p =
 HoldsCommand (Grants paths user host) p =
     (p.0 ≡ codes "grants") × HavePaths p.1 paths
     × (first_of (codes "user") p.1 ≡ option_map (λ s. s.now) user) × (first_of (codes "host") p.1 ≡ option_map (λ s. s.now) host)
+HoldsCommand (Who paths command arguments runas) p =
+    (p.0 ≡ codes "who") × HavePaths p.1 paths
+    × (first_of (codes "command") p.1 ≡ Some command.now) × (is_command command.now ≡ true)
+    × (first_of (codes "arguments") p.1 ≡ option_map (λ s. s.now) arguments)
+    × (first_of (codes "runas") p.1 ≡ option_map (λ s. s.now) runas)
 HoldsCommand (Compare paths user host) p =
     (p.0 ≡ codes "compare") × HavePair p.1 paths
     × (first_of (codes "user") p.1 ≡ option_map (λ s. s.now) user) × (first_of (codes "host") p.1 ≡ option_map (λ s. s.now) host)
@@ -131,6 +142,7 @@ abbrev pub WorkersFit : Asked → Type 0
 WorkersFit (Check policy) = ⊤
 WorkersFit (Cautions policy links without) = ⊤
 WorkersFit (Grants paths user host) = ⊤
+WorkersFit (Who paths command arguments runas) = ⊤
 WorkersFit (Compare paths user host) = ⊤
 WorkersFit (Changes paths senders) = ⊤
 WorkersFit (Roots paths all) = ⊤
@@ -139,7 +151,8 @@ WorkersFit (Rules paths workers senders) = (1 ≤ workers) × (workers ≤ 16)
 WorkersFit (Report paths workers senders) = (1 ≤ workers) × (workers ≤ 16)
 
 -- a subcommand with these rows asks for no command: its name is another, a word is missing, a CLASS is no class of
--- cautions, its number of workers is outside the range that an audit accepts, or a user or a host is named beside requests
+-- cautions, a PATH is neither one from the root nor `sudoedit`, its number of workers is outside the range that an audit
+-- accepts, or a user or a host is named beside requests
 abbrev pub AsksNothing : Text × List Row → Type 0
 AsksNothing p = (asked : Asked) → HoldsCommand asked p → WorkersFit asked → ⊥
 

@@ -4,7 +4,7 @@ ghost use Rattle.clap.specs.Words.{app_of, rule_of};
 ghost use Rattle.clap.specs.declared.builder.command.Command.TheViews.{out-Command as fields_of};
 ghost use Rattle.review_commands.specs.Words.{all_rule, cautions_app, compare_app, grants_app, judging_app, name_rule};
 ghost use Rattle.review_commands.specs.Words.{named_app, pair_app, paths_app, policy_app, program_app, requests_rule, root_rule, roots_app};
-ghost use Rattle.review_commands.specs.Words.{without_rule};
+ghost use Rattle.review_commands.specs.Words.{who_app, without_rule};
 
 use clap::{Arg, ArgAction, Command};
 use run_base::{file, path_option, senders_words, with_subcommand, word, workers_option};
@@ -95,6 +95,22 @@ fn grants<'a>(alloc: Global) -> Result<Command<'a>, AllocError>
     with_paths(alloc, "grants", about)?
         .arg(name_option(alloc, "user", "Only the grants of this user"))?
         .arg(name_option(alloc, "host", "Only the grants on this host"))
+}
+
+// Returns `who FILE [--root DIR] --users F --hosts F --command PATH [--arguments TEXT] [--runas USER]`.
+fn who<'a>(alloc: Global) -> Result<Command<'a>, AllocError>
+    ensures app { IfOk result (λ c. app_of c ≡ who_app) }
+    ensures local { IfOk result (λ c. (fields_of c).has_globals ≡ false) }
+{
+    let about = "Lists who may run a command, and on which host";
+    with_paths(alloc, "who", about)?
+        .arg(path_option(alloc, "command", "The path of the command, or sudoedit"))?
+        .arg(name_option(
+            alloc,
+            "arguments",
+            "Its arguments, with blanks between them",
+        ))?
+        .arg(name_option(alloc, "runas", "The user to run it as"))
 }
 
 // Returns `--all`.
@@ -201,7 +217,8 @@ pub(crate) fn program<'a>(alloc: Global) -> Result<Command<'a>, AllocError>
     let with_cautions = with_subcommand(with_check, cautions(alloc))?;
     let with_report = with_subcommand(with_cautions, report(alloc))?;
     let with_grants = with_subcommand(with_report, grants(alloc))?;
-    let with_roots = with_subcommand(with_grants, roots(alloc))?;
+    let with_who = with_subcommand(with_grants, who(alloc))?;
+    let with_roots = with_subcommand(with_who, roots(alloc))?;
     let with_subjects = with_subcommand(with_roots, subjects(alloc))?;
     let with_rules = with_subcommand(with_subjects, rules(alloc))?;
     with_subcommand(with_rules, compare(alloc))

@@ -58,8 +58,8 @@ pub(crate) fn scope_of<'a>(
     Ok(Scope { user, host })
 }
 
-// Prints the line that says why a table stopped part way, and returns 4.
-fn report_stop<E: Sink>(alloc: Global, stopped: Stopped, err: &mut E) -> u8
+/// Prints the line that says why a table stopped part way, and returns 4.
+pub(crate) fn report_stop<E: Sink>(alloc: Global, stopped: Stopped, err: &mut E) -> u8
     ensures { PrintsOrNoMemory program_name 4 (stop_line program_name stopped) result
         (sent E.taken E.stalled_writes err.old err.new) }
 {

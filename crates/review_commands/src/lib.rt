@@ -26,6 +26,7 @@ mod roots;
 mod subject_rows;
 mod subjects;
 mod survey;
+mod who;
 mod words;
 
 pub use cautions::cautions_run;
@@ -40,4 +41,5 @@ pub use report::{Form, report_into};
 pub use request::{Asked, PairPaths, Paths, PolicyPath};
 pub use roots::roots_run;
 pub use subjects::subjects_run;
+pub use who::who_run;
 pub use words::{asked, unread};

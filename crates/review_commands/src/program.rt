@@ -14,12 +14,14 @@ use crate::report::{Form, report_into};
 use crate::request::{Asked, PairPaths, Paths, PolicyPath};
 use crate::roots::roots_run;
 use crate::subjects::subjects_run;
+use crate::who::who_run;
 use crate::words::{asked, unread};
 use audit_commands::{OpenedFiles, Work, open_all};
 use audit_files::Device;
 use clap::Error;
 use clap::error::ErrorKind;
 use review_cautions::{CautionClass, Link, usual_links};
+use review_grants::Sought;
 use run_base::{OpenFault, SystemOpener, open, report_explained};
 use std::alloc::AllocError;
 use std::env;
@@ -160,6 +162,37 @@ fn run_grants(rt: &HostRuntime, paths: Paths<'_>, names: ScopeNames<'_>) -> u8 {
                 &mut users,
                 &mut hosts,
                 names,
+                &mut out,
+                &mut err,
+            )
+        }
+        Err(fault) => report_explained(alloc, PROGRAM, fault, &mut err),
+    }
+}
+
+// Lists who may run a command under a policy, and returns the exit status.
+fn run_who(rt: &HostRuntime, paths: Paths<'_>, sought: Sought<'_>) -> u8 {
+    let alloc = rt.alloc();
+    let mut out = Device::new(rt.stdout());
+    let mut err = Device::new(rt.stderr());
+    let mut files = match policy_files(rt, paths.policy, true) {
+        Ok(files) => files,
+        Err(refused) => return report_explained(alloc, PROGRAM, refused, &mut err),
+    };
+    match open_all(alloc, &SystemOpener::new(rt), paths.users, paths.hosts, &[]) {
+        Ok(opened) => {
+            let OpenedFiles {
+                mut users,
+                mut hosts,
+                ..
+            } = opened;
+            who_run(
+                alloc,
+                paths.policy.file.as_bytes(),
+                &mut files,
+                &mut users,
+                &mut hosts,
+                sought,
                 &mut out,
                 &mut err,
             )
@@ -326,6 +359,19 @@ fn run<T: Threads + Wait + Sync>(rt: &HostRuntime, threads: &T, asked: Asked<'_>
                 host: bytes_of(host),
             };
             run_grants(rt, paths, names)
+        }
+        Asked::Who {
+            paths,
+            command,
+            arguments,
+            runas,
+        } => {
+            let sought = Sought {
+                command: command.as_bytes(),
+                arguments: arguments.unwrap_or("").as_bytes(),
+                target: bytes_of(runas),
+            };
+            run_who(rt, paths, sought)
         }
         Asked::Roots { paths, all } => run_roots(rt, paths, all),
         Asked::Subjects { paths } => run_subjects(rt, paths),

@@ -52,6 +52,14 @@ pub enum Asked<'a> {
         paths: Paths<'a>,
         all: bool,
     },
+    /// `who FILE [--root DIR] --users F --hosts F --command PATH [--arguments TEXT] [--runas USER]`: lists who may run a command,
+    /// and on which host.
+    Who {
+        paths: Paths<'a>,
+        command: &'a str,
+        arguments: Option<&'a str>,
+        runas: Option<&'a str>,
+    },
     /// `subjects FILE [--root DIR] --users F --hosts F`: lists what of a policy reaches nobody.
     Subjects {
         paths: Paths<'a>,

@@ -6,6 +6,7 @@ ghost use Rattle.run_base.specs.Arguments.{IsUnaskedKind, IsUnreadableWord};
 ghost use Rattle.review_cautions.specs.Classes.{class_name};
 ghost use Rattle.review_cautions.specs.declared.class.CautionClass.{CautionClass};
 ghost use Rattle.review_commands.specs.Words.{AsksNothing, IsErrorOfWords};
+ghost use Rattle.audit_files.specs.Requests.{is_command as command_test};
 ghost use Rattle.review_commands.specs.Body.Paths.{LackPair, LackPaths};
 ghost use Rattle.review_commands.specs.Words.{HavePair, HavePaths, HavePolicy, HoldsCommand, IsFlag};
 ghost use Rattle.review_commands.specs.Words.{WorkersFit, program_app};
@@ -27,6 +28,8 @@ enum Unasked {
     Missing,
     // A word names no class of cautions.
     BadClass,
+    // A path of a command is neither one from the root nor `sudoedit`.
+    BadCommand,
     // A user or a host is named beside requests.
     Scoped,
     // Out of memory.
@@ -146,6 +149,41 @@ fn asked_grants<'a>(given: &ArgMatches<'a>) -> Result<Asked<'a>, Unasked>
         paths,
         user: value(given, "user"),
         host: value(given, "host"),
+    })
+}
+
+// Whether a text is `sudoedit`, or a path from the root.
+fn is_command(text: &[u8]) -> bool
+    ensures { result ≡ command_test text.now }
+{
+    match text {
+        [] => false,
+        [first, ..] => *first == b'/' || text == b"sudoedit".as_slice(),
+    }
+}
+
+// Returns the command of the values of `who`.
+fn asked_who<'a>(given: &ArgMatches<'a>) -> Result<Asked<'a>, Unasked>
+    ensures stated { IfOk result
+        (λ a. HoldsCommand a (codes "who", rows_of (found_of given.now))) }
+    ensures workers { IfOk result WorkersFit }
+    ensures nothing { IfErr result (λ e. e ≢ Unasked.Memory
+        → AsksNothing (codes "who", rows_of (found_of given.now))) }
+{
+    let Some(paths) = paths_of(given) else {
+        return Err(Unasked::Missing);
+    };
+    let Some(command) = value(given, "command") else {
+        return Err(Unasked::Missing);
+    };
+    if !is_command(command.as_bytes()) {
+        return Err(Unasked::BadCommand);
+    }
+    Ok(Asked::Who {
+        paths,
+        command,
+        arguments: value(given, "arguments"),
+        runas: value(given, "runas"),
     })
 }
 
@@ -326,6 +364,9 @@ fn asked_by<'a>(alloc: Global, name: &str, given: &ArgMatches<'a>) -> Result<Ask
     if name == "subjects" {
         return asked_subjects(given);
     }
+    if name == "who" {
+        return asked_who(given);
+    }
     Err(Unasked::Missing)
 }
 
@@ -359,6 +400,10 @@ fn unasked_error(command: &mut Command<'_>, unasked: Unasked) -> Result<Error, A
             ErrorKind::InvalidValue,
             "CLASS is none of the classes of cautions",
         ),
+        Unasked::BadCommand => command.error(
+            ErrorKind::InvalidValue,
+            "PATH begins with a slash, or is sudoedit",
+        ),
         Unasked::Scoped => command.error(
             ErrorKind::InvalidValue,
             "--user and --host cannot be used with --requests",
@@ -388,7 +433,8 @@ fn asked_of<'a, S: AsStr>(
 
 /// Returns the command that the words ask for, the program's own name first, as `clap` reads them:
 /// `check FILE`, `cautions FILE [--links F] [--without CLASS]...`, `report FILE --users F --hosts F [--workers N] [NAME=PATH]...`,
-/// `grants FILE --users F --hosts F [--user NAME] [--host NAME]`, `roots FILE --users F --hosts F [--all]`,
+/// `grants FILE --users F --hosts F [--user NAME] [--host NAME]`,
+/// `who FILE --users F --hosts F --command PATH [--arguments TEXT] [--runas USER]`, `roots FILE --users F --hosts F [--all]`,
 /// `subjects FILE --users F --hosts F`,
 /// `rules FILE --users F --hosts F [--workers N] [NAME=PATH]...`,
 /// `compare OLD NEW --users F --hosts F [--user NAME] [--host NAME]`, or
@@ -396,8 +442,8 @@ fn asked_of<'a, S: AsStr>(
 /// takes `--root DIR` behind its name.
 ///
 /// Returns `clap`'s error, apart from allocation failure, exactly if `clap` does not accept the
-/// words (they are no such command, or ask for help or for the version), a CLASS is no class of cautions, or a user or a host is
-/// named beside requests.
+/// words (they are no such command, or ask for help or for the version), a CLASS is no class of cautions, a PATH neither begins
+/// with a slash nor is `sudoedit`, or a user or a host is named beside requests.
 pub fn asked<'a, S: AsStr>(alloc: Global, words: &'a [S]) -> Result<Asked<'a>, Error>
     ensures stated { IfOk result (λ a. (p : Text × List Row)
         × (subcommand_of program_app (map S.text words.entry.now) ≡ Some p) × HoldsCommand a p) }

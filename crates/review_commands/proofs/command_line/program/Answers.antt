@@ -3,7 +3,8 @@ use Rattle.std.specs.declared.alloc.AllocError.{AllocError}
 use Rattle.clap.specs.Words.{AddsSubcommand, App, app_of, with_subcommand}
 use Rattle.clap.specs.declared.builder.command.Command.{Command}
 use Rattle.clap.specs.declared.builder.command.Command.TheViews.{out-Command}
-use Rattle.review_commands.specs.Words.{cautions_app, compare_app, grants_app, judging_app, named_app, paths_app, policy_app, roots_app}
+use Rattle.review_commands.specs.Words.{cautions_app, compare_app, grants_app, judging_app, named_app, paths_app, policy_app}
+use Rattle.review_commands.specs.Words.{roots_app, who_app}
 use Rattle.review_commands.proofs.command_line.program.Goals as goal
 
 -- a command to which a subcommand is added
@@ -27,13 +28,15 @@ returns c =
     (judging_app (codes "report")) cautions c.report.ensures.app c.report.ensures.local c.in_ok-with_report.ensures in
     let grants = added (Ok c.in_ok-with_grants.with_grants) c.grants.result c.in_ok-with_report.with_report _ grants_app report
     c.grants.ensures.app c.grants.ensures.local c.in_ok-with_grants.ensures in
-    let roots = added (Ok c.in_ok-with_roots.with_roots) c.roots.result c.in_ok-with_grants.with_grants _ roots_app grants
+    let who = added (Ok c.in_ok-with_who.with_who) c.who.result c.in_ok-with_grants.with_grants _ who_app grants
+    c.who.ensures.app c.who.ensures.local c.in_ok-with_who.ensures in
+    let roots = added (Ok c.in_ok-with_roots.with_roots) c.roots.result c.in_ok-with_who.with_who _ roots_app who
     c.roots.ensures.app c.roots.ensures.local c.in_ok-with_roots.ensures in
     let subjects = added (Ok c.in_ok-with_subjects.with_subjects) c.subjects.result c.in_ok-with_roots.with_roots _
     (paths_app (codes "subjects")) roots c.subjects.ensures.app c.subjects.ensures.local c.in_ok-with_subjects.ensures in
     let rules = added (Ok c.in_ok-with_rules.with_rules) c.rules.result c.in_ok-with_subjects.with_subjects _
     (judging_app (codes "rules")) subjects c.rules.ensures.app c.rules.ensures.local c.in_ok-with_rules.ensures in
     record {
-      app = added c.with_subcommand-8.result c.compare.result c.in_ok-with_rules.with_rules _ compare_app rules
-          c.compare.ensures.app c.compare.ensures.local c.with_subcommand-8.ensures;
+      app = added c.with_subcommand-9.result c.compare.result c.in_ok-with_rules.with_rules _ compare_app rules
+          c.compare.ensures.app c.compare.ensures.local c.with_subcommand-9.ensures;
     }
