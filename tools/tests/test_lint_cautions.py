@@ -56,6 +56,8 @@ class Cautions(Case):
         self.assertEqual(self.lint("p"), "p:3: warning: unused User_Alias B\n    3 | User_Alias B = ann\np: ok\n")
         self.assertIn("p:1: error: unsupported option", self.lint("--no-cautions", "p", status=1))
         self.write("p", "ann ALL = CWD=/srv CHROOT=/srv /opt/x\n")
+        self.assertIn("p:1: warning: caution: depends: chroot: ", self.lint("p"))
+        self.write("p", "ann ALL = CWD=/srv CHROOT=srv /opt/x\n")
         self.assertIn("p:1: error: unsupported option", self.lint("p", status=1))
 
     def test_formats(self) -> None:
