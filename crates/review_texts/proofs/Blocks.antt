@@ -53,9 +53,13 @@ take_written (suc n) (b ∷ bs) = elim (b == 10)
 pub block_before : (noted : Bool) (line : Line) (lines : List Line) (bytes rest after block tail : List ℕ) → bytes ≡ written line rest
     → after ≡ drop (length (written line rest)) rest → IsBlock noted line bytes block → AreBlocks noted lines after tail
     → AreBlocks noted (line ∷ lines) rest (block ++ tail)
-block_before noted line lines bytes rest after block tail front back is are =
-    (block, tail, subst (λ (b : List ℕ). IsBlock noted line b block) front is,
-    subst (λ (r : List ℕ). AreBlocks noted lines r tail) back are, refl)
+block_before noted line lines bytes rest after block tail front back is are = (
+  block,
+  tail,
+  subst (λ (b : List ℕ). IsBlock noted line b block) front is,
+  subst (λ (r : List ℕ). AreBlocks noted lines r tail) back are,
+  refl,
+)
 
 -- A block is appended.
 pub pushed : {A E : Type 0} (noted : Bool) (r : Result A E) (line : Line) (bytes block old new : List ℕ) → IsBlock noted line bytes block
