@@ -32,7 +32,7 @@ COLUMNS = ("verdict", "place", "tags", "depends")
 
 
 class Answer(NamedTuple):
-    """A verdict, the place and the tags of the grant that decided, and what is noted that it depends on."""
+    """A verdict, with the place and the tags of the grant that decided, and what it depends on."""
 
     verdict: str
     place: str = ""

@@ -18,7 +18,7 @@ OPTIONS = (
     "TIMEOUT=7d4h",
     "TIMEOUT = 10m30s",
 )
-# What is noted and not judged: in the past and in the future, where there is such a folder and where there is none.
+# Options that a note stands for: times in the past and in the future, a root that exists and one that does not.
 NOTED = (
     "CHROOT=/",
     "CHROOT=/gone",

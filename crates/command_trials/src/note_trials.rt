@@ -1,4 +1,4 @@
-//! Cautions on commands that stand for what is not judged.
+//! Cautions on notes: on the commands that stand for a digest, a time or a root.
 
 use crate::runs::{Item, Shelf, cautions_shown};
 use audit_files::Script;

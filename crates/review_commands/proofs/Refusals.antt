@@ -107,7 +107,7 @@ check_is_rules = differ_at 2 (codes "check") (codes "rules") 101 108 refl refl (
 check_is_compare : codes "check" ≡ codes "compare" → ⊥
 check_is_compare = differ_at 2 (codes "check") (codes "compare") 101 109 refl refl (omega arith)
 
--- and the first letter of `who` from theirs
+-- `who` differs from each in the first letter
 cautions_is_who : codes "cautions" ≡ codes "who" → ⊥
 cautions_is_who = differ_at 0 (codes "cautions") (codes "who") 99 119 refl refl (omega arith)
 
@@ -265,7 +265,7 @@ who_without_words rows lack (Who paths command arguments runas) stated fit = eli
   | inr none ↦ none_there _ _ none stated.2
 ]
 
--- the path of a command is none
+-- PATH is neither a path from the root nor `sudoedit`
 pub who_of_bad_command : (rows : List Row) (text : Text) → first_of (codes "command") rows ≡ Some text → is_command text ≡ false
     → AsksNothing (codes "who", rows)
 who_of_bad_command rows text is bad (Check policy) stated fit = check_is_who (sym stated.0)

@@ -15,8 +15,8 @@ pub(crate) enum PolicyFiles<'a> {
     Below(Rooted<HostTree<'a>>),
 }
 
-/// Returns the files of a policy, with their masked texts: with notes for what is not judged, or those forms refused. Returns
-/// `AllocError` if allocation failed.
+/// Returns the files of a policy, with their masked texts. If `noted`, a note stands for each digest, time and root; otherwise
+/// these stay, and the reader refuses them. Returns `AllocError` if allocation failed.
 pub(crate) fn policy_files<'a>(
     rt: &'a HostRuntime,
     policy: PolicyPath<'_>,
@@ -32,7 +32,7 @@ pub(crate) fn policy_files<'a>(
     }
 }
 
-/// Returns the files of this machine, with their masked texts. What is not judged is refused.
+/// Returns the files of this machine, with their masked texts. Digests, times and roots stay, and the reader refuses them.
 pub(crate) fn machine_files<'a>(rt: &'a HostRuntime) -> Masked<PolicyFiles<'a>> {
     Masked::new(PolicyFiles::Machine(Disk::new(rt)), false)
 }

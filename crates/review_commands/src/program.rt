@@ -29,8 +29,8 @@ use std::sync::Wait;
 use std::thread::Threads;
 
 // Answers the requests of the files that the words `NAME=PATH` name, under a policy, and returns the exit status.
-// `threads` is the runtime, if it can start threads. What is not judged is noted beside each answer; a table of rules has no
-// place for it, and refuses it.
+// `threads` is the runtime, if it can start threads. A report notes beside each answer what it
+// depends on; the table of rules has no column for that, so it refuses digests, times and roots.
 fn run_report<T: Threads + Wait + Sync>(
     rt: &HostRuntime,
     threads: &T,
@@ -201,8 +201,8 @@ fn run_who(rt: &HostRuntime, paths: Paths<'_>, sought: Sought<'_>) -> u8 {
     }
 }
 
-// Lists who can become root under a policy, and returns the exit status. A policy with what is not judged is refused: a
-// denial that may not hold could hide a chain.
+// Lists who can become root under a policy, and returns the exit status. Refuses digests, times and
+// roots: a denial that depends on one could hide a chain.
 fn run_roots(rt: &HostRuntime, paths: Paths<'_>, all: bool) -> u8 {
     let alloc = rt.alloc();
     let mut out = Device::new(rt.stdout());

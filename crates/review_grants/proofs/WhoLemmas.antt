@@ -24,14 +24,14 @@ appends-none : (old : Option (List ℕ)) → Appends old old []
 appends-none None = tt
 appends-none (Some a) = sym (append-nil a)
 
--- a text that waits before anything is written
-pub waits-first : (old : Option (List ℕ)) (waits : Pending) (text : List ℕ) → waits.text.items ≡ text → waits.written ≡ 0
-    → IsOnItsWay old old waits text
-waits-first old waits text is none = record {
+-- what is pending before the first write is the text itself
+pub first-pending : (old : Option (List ℕ)) (pending : Pending) (text : List ℕ) → pending.text.items ≡ text → pending.written ≡ 0
+    → IsOnItsWay old old pending text
+first-pending old pending text same unwritten = record {
   part = [];
   gone = appends-none old;
-  is = sym is;
-  counted = none;
+  is = sym same;
+  counted = unwritten;
 }
 
 pub puts-none : (old : Option (List ℕ)) (waits : Pending) → Puts old old waits waits []

@@ -86,6 +86,6 @@ noted_by t (Allow at tags) = noted_in t at
 noted_by t (Deny at) = noted_in t at
 noted_by t _ = []
 
--- they are the notes of the grants of a policy, at each place
+-- at each place the table has the notes of the grants of the policy
 abbrev pub IsNoted : Policy → NotedPlaces → Type 0
 IsNoted p t = (at : Place) → noted_in t at ≡ notes_at p at

@@ -21,7 +21,7 @@ use sudo_policy::Checked;
 use sudo_text::Seq;
 use sudo_verdict::RuleIndex;
 
-/// What is asked for, of each known user on each known host.
+/// The command that is sought, for each known user on each known host.
 #[derive(Clone, Copy)]
 pub struct Sought<'a> {
     /// The command, by its absolute path, or `sudoedit`.
@@ -32,7 +32,8 @@ pub struct Sought<'a> {
     pub target: Option<&'a [u8]>,
 }
 
-// A policy with its index and what its grants depend on, the known users and hosts, and what is asked for.
+// What judges each request: a checked policy, the index of its rules and its notes; the known users and hosts; and what is
+// sought.
 #[derive(Clone, Copy)]
 struct Judged<'a> {
     checked: &'a Checked,

@@ -19,7 +19,7 @@ use Rattle.review_texts.specs.Options.{name_at, option_end}
 use Rattle.review_texts.specs.Digests.{digest_end}
 use Rattle.review_texts.specs.Places.{IsRefusedFor, with_text, StandsOption, StandsList, StandsDigest, no_path}
 
--- a form stands from an offset up to another; `noted`: with the forms that are noted and not judged
+-- a form stands from an offset up to another; `noted`: also a digest, a time or a root
 abbrev pub Stands : Bool → Line → Unsupported → ℕ → ℕ → Type 0
 Stands noted line forms.CommandOption start end = StandsOption noted line start × (end ≡ option_end line.text start)
 Stands noted line forms.List start end = StandsList line start × (end ≡ start + 4)

@@ -18,7 +18,7 @@ is_exact_option w = list_any (bytes_eq w) (codes "CWD" ∷ codes "TIMEOUT" ∷ c
 abbrev pub is_noted_option : List ℕ → Bool
 is_noted_option w = list_any (bytes_eq w) (codes "CHROOT" ∷ codes "NOTBEFORE" ∷ codes "NOTAFTER" ∷ [])
 
--- the options that are masked, with those that are noted or without them
+-- the options that are masked; `noted`: also those of roots and times
 abbrev pub is_option : Bool → List ℕ → Bool
 is_option noted w = is_exact_option w || (noted && is_noted_option w)
 

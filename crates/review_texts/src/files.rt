@@ -15,8 +15,8 @@ pub struct Masked<F> {
 }
 
 impl<F: Files> Masked<F> {
-    /// Creates the masked files of files: with masks for the forms alone that change nothing of who may run what, or, if
-    /// `noted`, for digests, times and roots too, each with a note before the commands that it is about.
+    /// Wraps files, so that each gives its masked text. If `noted`, digests, times and roots are masked too: a note stands for
+    /// each, before the commands that it is about.
     pub fn new(files: F, noted: bool) -> Masked<F>
         ensures { (result.files ≡ files) × (result.noted ≡ noted) }
     {

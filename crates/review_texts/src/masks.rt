@@ -96,8 +96,8 @@ fn first_stand(
     Ok(None)
 }
 
-/// Returns the mask of a line, if it has one, with the forms that are noted and not judged or without them. Returns
-/// `AllocError` if allocation fails.
+/// Returns the mask of a line, if it has one: if `noted`, also for a digest, a time or a root. Returns `AllocError` if
+/// allocation fails.
 pub fn mask_of(alloc: Global, noted: bool, line: &Line) -> Result<Option<Mask>, AllocError>
     ensures { IfOk result (λ found. MatchOption found (IsUnmasked noted line.now)
         (λ mask. IsMask noted line.now mask)) }
@@ -188,8 +188,8 @@ fn behind_masks(alloc: Global, noted: bool, most: u32, line: Line) -> Result<Lin
     Ok(line)
 }
 
-/// Returns a line behind all its masks, or `None` if it has none, with the forms that are noted and not judged or without
-/// them. Returns `AllocError` if allocation fails.
+/// Returns a line behind all its masks, or `None` if it has none: if `noted`, also those for digests, times and roots. Returns
+/// `AllocError` if allocation fails.
 pub fn mask_line(alloc: Global, noted: bool, line: &Line) -> Result<Option<Line>, AllocError>
     ensures { IfOk result (λ found. MatchOption found (IsUnmasked noted line.now)
         (λ masked. IsMasked noted line.now masked)) }

@@ -23,7 +23,7 @@ fn is_noted_option(name: &[u8]) -> bool
     is_text(name, b"CHROOT") || is_text(name, b"NOTBEFORE") || is_text(name, b"NOTAFTER")
 }
 
-// Whether an option is masked, with those that are noted or without them.
+// Whether an option is masked: if `noted`, also one that says below which root a command is, or when it may be run.
 fn is_option(noted: bool, name: &[u8]) -> bool
     ensures { result ≡ spec.is_option noted name.now }
 {

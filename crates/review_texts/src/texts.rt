@@ -239,8 +239,8 @@ fn mask_words(alloc: Global, noted: bool, text: &[u8]) -> Result<Seq<u8>, AllocE
     }
 }
 
-/// Returns the masked text of a file, with masks for the forms that are noted and not judged or without them. Returns
-/// `AllocError` if allocation fails.
+/// Returns the masked text of a file: if `noted`, digests, times and roots are masked too. Returns `AllocError` if allocation
+/// fails.
 pub fn mask_text(alloc: Global, noted: bool, text: Seq<u8>) -> Result<Seq<u8>, AllocError>
     ensures { IfOk result (λ masked. IsMaskedText noted text masked) }
 {
