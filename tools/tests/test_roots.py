@@ -6,7 +6,10 @@ POLICIES says how many policies there are.
 
 import csv
 import io
+import itertools
 import os
+import random
+import re
 import unittest
 from collections import Counter
 from collections.abc import Iterator
@@ -221,6 +224,28 @@ class Draw(listing.Draw):
         return lines
 
 
+class Noted:
+    """A policy some of whose rules are noted: they hold at some times alone."""
+
+    def __init__(self, policy: listing.Policy, seed: int) -> None:
+        self.lines = str(policy).splitlines()
+        rules = [index for index, line in enumerate(self.lines) if not line.startswith("Cmnd_Alias")]
+        self.noted = random.Random(seed).sample(rules, min(3, len(rules)))
+
+    def whole(self) -> str:
+        """Returns the policy, with an option of time at each rule that is noted."""
+        lines = list(self.lines)
+        for index in self.noted:
+            lines[index] = re.sub(r"= (\([^)]*\) )?", r"\g<0>NOTAFTER=2027010100 ", lines[index], count=1)
+        return "".join(f"{line}\n" for line in lines)
+
+    def each(self) -> Iterator[str]:
+        """Yields the policy for each choice of the noted rules that hold."""
+        for held in itertools.product((True, False), repeat=len(self.noted)):
+            out = {index for index, holds in zip(self.noted, held) if not holds}
+            yield "".join("#\n" if index in out else f"{line}\n" for index, line in enumerate(self.lines))
+
+
 @needs_review
 class Roots(Drawn):
     """Tables of who can become root."""
@@ -251,6 +276,37 @@ class Roots(Drawn):
             self.check(Host(policy, name), [row for row in every if row.host == name], is_sure)
         for row in every:
             yield from (row.level, row.password, "a group" if "+" in row.via else "", "two" if " > " in row.via else "")
+
+    def bounded(self, noted: Noted) -> Iterator[str]:
+        """Yields whether each row depends on a time. Fails where a row says less than is so for one choice, or is not so for each."""
+        self.write("p", noted.whole())
+        most = {(row.user, row.host): row for row in self.table("--all")}
+        for text in noted.each():
+            self.write("p", text)
+            rows = {(row.user, row.host): row for row in self.table("--all")}
+            self.assertLessEqual(set(rows), set(most))
+            for cell, bound in most.items():
+                row = rows.get(cell)
+                if row is None:
+                    self.assertEqual(bound.depends, "time", (bound, text))
+                elif bound.depends:
+                    order = (*LEVELS, "root")
+                    self.assertGreaterEqual(order.index(bound.level), order.index(row.level), (bound, row, text))
+                    if bound.level == row.level:
+                        # Of chains of a level, one with `own` is not preferred to one with `other`.
+                        self.assertLessEqual(min(2, PASSWORDS.index(bound.password)), PASSWORDS.index(row.password), (bound, row, text))
+                else:
+                    wanted = bound.level, min(2, PASSWORDS.index(bound.password))
+                    self.assertEqual(wanted, (row.level, min(2, PASSWORDS.index(row.password))), (bound, row, text))
+        yield from (row.depends for row in most.values())
+
+    def test_what_is_noted_is_bounded(self) -> None:
+        seen: Counter[str] = Counter()
+        for seed in range(POLICIES):
+            policy = Draw(seed).policy
+            with self.subTest(seed=seed, policy=str(policy)):
+                seen.update(self.bounded(Noted(policy, seed)))
+        self.assertGreater(min(seen["time"], seen[""]), 0, seen)
 
     def test_the_rows_are_those_of_the_second_body(self) -> None:
         seen: Counter[str] = Counter()

@@ -52,16 +52,16 @@ behind-next f states at before s old text new within is so_far more =
     ∙ ap (λ (t : List ℕ). t ++ flat_map f (behind s.user (drop (at + 1) states))) (sym more)
 
 -- a record of nine fields
-pub nine : (old one two three new user host target level password place tags via : List ℕ)
+pub nine : (old one two three new user host target level password place tags via depends : List ℕ)
     → one ≡ old ++ field_text default_writer user
     → two ≡ one ++ fields_text default_writer (host ∷ target ∷ level ∷ [])
     → three ≡ two ++ fields_text default_writer (password ∷ place ∷ tags ∷ [])
-    → new ≡ three ++ (fields_text default_writer (via ∷ [] ∷ []) ++ 10 ∷ [])
-    → new ≡ old ++ line (user ∷ host ∷ target ∷ level ∷ password ∷ place ∷ tags ∷ via ∷ [] ∷ [])
-nine old one two three new user host target level password place tags via first second third end =
-    row_of old one two three (three ++ fields_text default_writer (via ∷ [] ∷ [])) new (field_text default_writer user) user host
-    (target ∷ level ∷ []) (password ∷ place ∷ tags ∷ []) (via ∷ [] ∷ []) first refl second third refl
-    (end ∙ sym (append_assoc three (fields_text default_writer (via ∷ [] ∷ [])) (10 ∷ [])))
+    → new ≡ three ++ (fields_text default_writer (via ∷ depends ∷ []) ++ 10 ∷ [])
+    → new ≡ old ++ line (user ∷ host ∷ target ∷ level ∷ password ∷ place ∷ tags ∷ via ∷ depends ∷ [])
+nine old one two three new user host target level password place tags via depends first second third end =
+    row_of old one two three (three ++ fields_text default_writer (via ∷ depends ∷ [])) new (field_text default_writer user) user host
+    (target ∷ level ∷ []) (password ∷ place ∷ tags ∷ []) (via ∷ depends ∷ []) first refl second third refl
+    (end ∙ sym (append_assoc three (fields_text default_writer (via ∷ depends ∷ [])) (10 ∷ [])))
 
 -- the users so far, with one more
 pub zero-next : (f : ℕ → Bool) (n : ℕ) (users new : List ℕ) → users ≡ filter f (range_with_len 0 n)

@@ -10,6 +10,8 @@ use Rattle.sudo_match.specs.declared.people.Group.{Group}
 use Rattle.sudo_match.specs.declared.people.Machine.{Machine}
 use Rattle.sudo_match.specs.declared.people.Person.{Person}
 use Rattle.review_cautions.specs.PasswordDefaults.{decides_passwords}
+use Rattle.review_texts.specs.Notes.{notes}
+use Rattle.review_grants.specs.Depends.{depends_text, has_mark}
 use Rattle.review_roots.specs.AddableGroups.{addable_groups}
 use Rattle.review_roots.specs.Ranks.{level_name}
 use Rattle.review_roots.specs.Roots.{AreRoots}
@@ -77,12 +79,12 @@ abbrev pub row_tags : Option AllowingRow → List ℕ
 row_tags None = []
 row_tags (Some row) = tags_text row.tags
 
--- how: the level, whose password, the row of the first step with its tags, the chain, and what it depends on
+-- how: the level, whose password, the row of the first step with its tags, the chain, and what its steps depend on
 abbrev pub way_fields : Policy → KnownRows → List Group → ℕ → Option Way → List (List ℕ)
 way_fields p d groups user None = codes "root" ∷ codes "none" ∷ [] ∷ [] ∷ [] ∷ [] ∷ []
 way_fields p d groups user (Some w) =
     level_name w.level ∷ password_text (decides_passwords p) w.password ∷ row_place p.files w.by ∷ row_tags w.by
-    ∷ via_text d groups user w.chain.items ∷ [] ∷ []
+    ∷ via_text d groups user w.chain.items ∷ depends_text (filter (has_mark w.marks) notes) ∷ []
 
 -- the record of a user that can become the target on a host
 abbrev pub root_fields : Policy → KnownRows → List Group → Machine → ℕ → Root → List (List ℕ)
@@ -144,10 +146,9 @@ pub record AreRootRows (all : Bool) (p : Policy) (d : KnownRows) (text : List �
 
 -- ---- Words that only proofs of bodies need
 
--- these are the fields that say how, but for the last
-abbrev pub AreWayTexts : Policy → KnownRows → List Group → ℕ → Option Way → List ℕ → List ℕ → List ℕ → List ℕ → List ℕ → Type 0
-AreWayTexts p d groups user way level password place tags via =
-    (level ∷ password ∷ place ∷ tags ∷ via ∷ [] ∷ []) ≡ way_fields p d groups user way
+-- these are the fields that say how
+abbrev pub AreWayTexts : Policy → KnownRows → List Group → ℕ → Option Way → List (List ℕ) → Type 0
+AreWayTexts p d groups user way texts = texts ≡ way_fields p d groups user way
 
 -- a text that a relation holds of is appended
 abbrev pub Appends : (List ℕ → Type 0) → List ℕ → List ℕ → Type 0

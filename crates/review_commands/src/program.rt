@@ -201,13 +201,12 @@ fn run_who(rt: &HostRuntime, paths: Paths<'_>, sought: Sought<'_>) -> u8 {
     }
 }
 
-// Lists who can become root under a policy, and returns the exit status. Refuses digests, times and
-// roots: a denial that depends on one could hide a chain.
+// Lists who can become root under a policy, and returns the exit status.
 fn run_roots(rt: &HostRuntime, paths: Paths<'_>, all: bool) -> u8 {
     let alloc = rt.alloc();
     let mut out = Device::new(rt.stdout());
     let mut err = Device::new(rt.stderr());
-    let mut files = match policy_files(rt, paths.policy, false) {
+    let mut files = match policy_files(rt, paths.policy, true) {
         Ok(files) => files,
         Err(refused) => return report_explained(alloc, PROGRAM, refused, &mut err),
     };

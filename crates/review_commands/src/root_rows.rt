@@ -174,7 +174,7 @@ fn tags_of(alloc: Global, by: Option<AllowingRow>) -> Result<Vec<u8>, AllocError
     Ok(text)
 }
 
-// The fields that say how a user becomes the target, but for the last, which is empty.
+// The fields that say how a user becomes the target.
 #[derive(Drop)]
 struct WayTexts {
     level: &'static [u8],
@@ -182,6 +182,7 @@ struct WayTexts {
     place: Vec<u8>,
     tags: Vec<u8>,
     via: Vec<u8>,
+    depends: &'static [u8],
 }
 
 // Returns the fields for a chain.
@@ -193,7 +194,8 @@ fn chain_texts(
 ) -> Result<WayTexts, AllocError>
     ensures { IfOk result (λ t. spec.AreWayTexts table.entry.checked.now
         table.entry.directory.now table.entry.groups.now user (Some way.now)
-        t.level.now t.password.now t.place.items t.tags.items t.via.items) }
+        (t.level.now ∷ t.password.now ∷ t.place.items ∷ t.tags.items ∷ t.via.items
+        ∷ t.depends.now ∷ [])) }
 {
     let files = table.checked.policy().files.as_slice();
     Ok(WayTexts {
@@ -202,6 +204,7 @@ fn chain_texts(
         place: place_of(alloc, files, way.by)?,
         tags: tags_of(alloc, way.by)?,
         via: via(alloc, table.directory, table.groups, user, &way.chain)?,
+        depends: way.marks.text(),
     })
 }
 
@@ -214,7 +217,8 @@ fn way_texts(
 ) -> Result<WayTexts, AllocError>
     ensures { IfOk result (λ t. spec.AreWayTexts table.entry.checked.now
         table.entry.directory.now table.entry.groups.now user way.now
-        t.level.now t.password.now t.place.items t.tags.items t.via.items) }
+        (t.level.now ∷ t.password.now ∷ t.place.items ∷ t.tags.items ∷ t.via.items
+        ∷ t.depends.now ∷ [])) }
 {
     match way {
         Some(way) => chain_texts(alloc, table, user, way),
@@ -224,6 +228,7 @@ fn way_texts(
             place: Vec::new(alloc),
             tags: Vec::new(alloc),
             via: Vec::new(alloc),
+            depends: b"",
         }),
     }
 }
@@ -239,14 +244,14 @@ fn push_three(text: &mut Vec<u8>, one: &[u8], two: &[u8], three: &[u8]) -> Resul
     push_next_field(text, three)
 }
 
-// Appends a last field but one, an empty last one, and the end of the record.
+// Appends the last two fields, and the end of the record.
 #[tactic(auto, unfolding(csv::specs::Writing::fields_text))]
-fn push_end(text: &mut Vec<u8>, field: &[u8]) -> Result<(), AllocError>
+fn push_end(text: &mut Vec<u8>, one: &[u8], two: &[u8]) -> Result<(), AllocError>
     ensures { OnOk result (text.new.items ≡ text.old.items
-        ++ (fields_text default_writer (field.now ∷ [] ∷ []) ++ 10 ∷ [])) }
+        ++ (fields_text default_writer (one.now ∷ two.now ∷ []) ++ 10 ∷ [])) }
 {
-    push_next_field(text, field)?;
-    push_next_field(text, b"")?;
+    push_next_field(text, one)?;
+    push_next_field(text, two)?;
     text.push(b'\n')?;
     Ok(())
 }
@@ -261,7 +266,7 @@ fn push_record(
 ) -> Result<(), AllocError>
     ensures { OnOk result (text.new.items ≡ text.old.items ++ line (user.now ∷ host.now
         ∷ target.now ∷ way.now.level.now ∷ way.now.password.now ∷ way.now.place.items
-        ∷ way.now.tags.items ∷ way.now.via.items ∷ [] ∷ [])) }
+        ∷ way.now.tags.items ∷ way.now.via.items ∷ way.now.depends.now ∷ [])) }
 {
     push_field(text, user)?;
     push_three(text, host, target, way.level)?;
@@ -271,7 +276,7 @@ fn push_record(
         way.place.as_slice(),
         way.tags.as_slice(),
     )?;
-    push_end(text, way.via.as_slice())
+    push_end(text, way.via.as_slice(), way.depends)
 }
 
 // Appends the record of a user that can become the target on a host.
@@ -410,7 +415,8 @@ fn push_header(text: &mut Vec<u8>) -> Result<(), AllocError>
 ///
 /// `level` is `root` for a user with ID 0, otherwise the best level of a chain of steps: `all`, `all-but` or, with `all` of the
 /// table, `listed`. `password` says whose its steps ask for. `place` and `tags` are those of a row that allows its first step;
-/// `via` has the states between. `depends` is empty. Returns `AllocError` if allocation failed.
+/// `via` has the states between. `depends` names the notes on which its steps depend: where it is empty, the record is so; otherwise
+/// `level` is the most, and `password` the least, that may be so. Returns `AllocError` if allocation failed.
 pub(crate) fn roots_text(alloc: Global, table: RootTable<'_>) -> Result<Vec<u8>, AllocError>
     ensures { IfOk result (λ text. spec.AreRootRows table.entry.all table.entry.checked.now
         table.entry.directory.now text.items 0) }

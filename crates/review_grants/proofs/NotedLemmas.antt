@@ -26,12 +26,13 @@ use Rattle.sudo_policy.proofs.FollowingLemmas.{option_join-parts, option_map-som
 use Rattle.sudo_text.specs.declared.line.Place.{Place}
 use Rattle.sudo_verdict.specs.Grants.{Grant, body_grants, entry_grants, grant_of, grants, place_grants, section_grants}
 use Rattle.review_texts.specs.declared.note.Note.{Note}
+use Rattle.review_texts.specs.declared.note.Note.TheVariants.{Digest, Time, Chroot}
 use Rattle.review_texts.specs.Notes.{note_in, notes}
-use Rattle.review_grants.specs.declared.depends.Marks.{Marks}
+use Rattle.review_grants.specs.declared.marks.Marks.{Marks}
 use Rattle.review_grants.specs.declared.depends.NotedPlaces.{NotedPlaces}
 use Rattle.review_grants.specs.declared.noted.Noted.{Noted}
 use Rattle.review_grants.specs.Depends.{IsNoted, has_mark, has_note, is_marked, is_note, is_noted_at, key_of, noted_in}
-use Rattle.review_grants.specs.Depends.{same_key, same_note, same_place}
+use Rattle.review_grants.specs.Depends.{IsMarked, marks_at, marks_in, same_key, same_note, same_place}
 use Rattle.review_grants.specs.Body.Noted.{body_has_note, body_notes, command_has_note, command_notes, definition_has_note, entry_has_note}
 use Rattle.review_grants.specs.Body.Noted.{entry_notes, is_note_member, is_noted, list_has_note, member_notes, noted_if, policy_notes}
 use Rattle.review_grants.specs.Body.Noted.{section_has_note, section_notes}
@@ -276,11 +277,26 @@ filter-alike f g same (x ∷ xs) =
     ∙ ap (λ (ys : List _). cond (g x) (x ∷ ys) ys) (filter-alike f g same xs)
 
 -- a table of all notes of a policy
+-- marks of the same notes are the same
+pub same-marks : (a b : Marks) → a.digest ≡ b.digest → a.time ≡ b.time → a.chroot ≡ b.chroot → a ≡ b
+same-marks a b first second third =
+    ap (λ d. record { digest = d; time = a.time; chroot = a.chroot }) first
+    ∙ ap (λ t. record { digest = b.digest; time = t; chroot = a.chroot }) second
+    ∙ ap (λ c. record { digest = b.digest; time = b.time; chroot = c }) third
+
 pub all-noted : (p : Policy) (t : NotedPlaces) (found : List Noted) → found ≡ policy_notes p
     → ((at : Place) (note : Note) → is_marked (get same_key t.marks (key_of at)) note ≡ list_any (is_noted at note) found)
     → IsNoted p t
 all-noted p t found are marks = λ at. filter-alike (is_marked (get same_key t.marks (key_of at))) (is_noted_at p at)
     (λ note. marks at note ∙ ap (list_any (is_noted at note)) are ∙ noted-grants p at note) notes
+
+pub all-marked : (p : Policy) (t : NotedPlaces) (found : List Noted) → found ≡ policy_notes p
+    → ((at : Place) (note : Note) → is_marked (get same_key t.marks (key_of at)) note ≡ list_any (is_noted at note) found)
+    → IsMarked p t
+all-marked p t found are marks = λ at. same-marks (marks_in t at) (marks_at p at) (one at Digest) (one at Time) (one at Chroot)
+  where
+    one : (at : Place) (note : Note) → is_marked (get same_key t.marks (key_of at)) note ≡ is_noted_at p at note
+    one at note = marks at note ∙ ap (list_any (is_noted at note)) are ∙ noted-grants p at note
 
 -- an empty table has no note
 pub none-in : (t : NotedPlaces) (at : Place) → hash_map_len t.marks ≡ 0 → noted_in t at ≡ []

@@ -1,6 +1,6 @@
 -- What the grants of a rule depend on besides the words of a request: the digest of a file, the time, another root. In a masked
 -- text a command that fits nothing stands for it (a note). It is one of the written-out commands, at the place of its rule.
-use Rattle.std.specs.Prelude.{◌≡◌, ℕ, Bool, true, false, ◌&&◌, ◌==◌, List, [], ◌∷◌, drop, filter, flat_map}
+use Rattle.std.specs.Prelude.{◌≡◌, ℕ, Bool, true, false, not, ◌&&◌, ◌||◌, ◌==◌, List, [], ◌∷◌, drop, filter, flat_map}
 use Rattle.std.specs.Prelude.{Option, Some, None, is_some}
 use Rattle.std.specs.HashMap.{get}
 use Rattle.std.specs.List.{list_any}
@@ -12,7 +12,7 @@ use Rattle.sudo_verdict.specs.Grants.{Grant, grants}
 use Rattle.review_texts.specs.declared.note.Note.{Note}
 use Rattle.review_texts.specs.declared.note.Note.TheVariants.{Digest, Time, Chroot}
 use Rattle.review_texts.specs.Notes.{note_in, note_name, notes}
-use Rattle.review_grants.specs.declared.depends.Marks.{Marks}
+use Rattle.review_grants.specs.declared.marks.Marks.{Marks}
 use Rattle.review_grants.specs.declared.depends.NotedPlaces.{NotedPlaces}
 
 -- the same line of the same file
@@ -52,6 +52,20 @@ depends_text found = drop 1 (flat_map (λ note. 32 ∷ note_name note) found)
 abbrev pub depends_at : Policy → Place → List ℕ
 depends_at p at = depends_text (notes_at p at)
 
+-- which notes the grants at the place have
+abbrev pub marks_at : Policy → Place → Marks
+marks_at p at = record { digest = is_noted_at p at Digest; time = is_noted_at p at Time; chroot = is_noted_at p at Chroot }
+
+abbrev pub unmarked : Marks
+unmarked = record { digest = false; time = false; chroot = false }
+
+abbrev pub is_unmarked : Marks → Bool
+is_unmarked m = not m.digest && (not m.time && not m.chroot)
+
+-- the notes of both
+abbrev pub joined_marks : Marks → Marks → Marks
+joined_marks a b = record { digest = a.digest || b.digest; time = a.time || b.time; chroot = a.chroot || b.chroot }
+
 -- what a verdict depends on: what the grants at its place do
 abbrev pub verdict_depends : Policy → Verdict → List ℕ
 verdict_depends p (Allow at tags) = depends_at p at
@@ -89,3 +103,15 @@ noted_by t _ = []
 -- at each place the table has the notes of the grants of the policy
 abbrev pub IsNoted : Policy → NotedPlaces → Type 0
 IsNoted p t = (at : Place) → noted_in t at ≡ notes_at p at
+
+-- which notes a table has at a place
+abbrev pub marks_in : NotedPlaces → Place → Marks
+marks_in t at = record {
+  digest = is_marked (get same_key t.marks (key_of at)) Digest;
+  time = is_marked (get same_key t.marks (key_of at)) Time;
+  chroot = is_marked (get same_key t.marks (key_of at)) Chroot;
+}
+
+-- and these are which notes the grants of the policy have there
+abbrev pub IsMarked : Policy → NotedPlaces → Type 0
+IsMarked p t = (at : Place) → marks_in t at ≡ marks_at p at

@@ -6,6 +6,7 @@ mod depends;
 mod fields;
 mod in_force;
 mod laws;
+mod marks;
 mod names;
 mod noted;
 mod rows;
@@ -15,6 +16,7 @@ mod writing;
 
 pub use depends::NotedPlaces;
 pub use laws::{last_row_decides, unlisted_may_not, unnoted_verdicts_hold};
+pub use marks::{Marks, UNMARKED};
 pub use rows::Scope;
 pub use who::{Sought, write_who};
 pub use writing::{Stopped, write_grants};

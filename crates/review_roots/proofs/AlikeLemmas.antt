@@ -322,7 +322,7 @@ module _
         → runas_allows p (question_as d one m t g) x.runas ≡ runas_allows p (question_as d other m t' g') x.runas) →
         given_asked p d one m t g ≡ given_asked p d other m t' g'
     given-same t t' g g' same =
-        ap given_by
+        ap (given_by p)
         (ap (filter (λ x. runas_allows p (question_as d one m t g) x.runas)) rows-same
         ∙ filter-same (λ x. runas_allows p (question_as d one m t g) x.runas) (λ x. runas_allows p (question_as d other m t' g') x.runas)
         (rows p other m) (λ x inside. same x (row-granted x inside)))

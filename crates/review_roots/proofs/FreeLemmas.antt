@@ -129,6 +129,7 @@ module _ (h : HostSteps) (target : ℕ) (least : Level) (chains : Chains) (lead 
         enough = is.enough;
         by = is.by;
         password = is.password;
+        marks = is.marks;
         free = inl none;
         unasked = inl (inl none);
       }
@@ -148,6 +149,7 @@ module _ (h : HostSteps) (target : ℕ) (least : Level) (chains : Chains) (lead 
         enough = is.enough;
         by = is.by;
         password = is.password;
+        marks = is.marks;
         free = inr (none-at (free_steps h target) h.states.now chains.free.items f.level w.level lead.free good is.enough inside none);
         unasked = inl (subst IsUnasked (sym is.password) (unasked-unasked h target w.level listed user start w.chain.items is.leads));
       }
@@ -164,6 +166,7 @@ module _ (h : HostSteps) (target : ℕ) (least : Level) (chains : Chains) (lead 
     enough = is.enough;
     by = is.by;
     password = is.password;
+    marks = is.marks;
     free = inr (none-at (free_steps h target) h.states.now chains.free.items f.level w.level lead.free good is.enough inside none);
     unasked = inr (none-at (unasked_steps h target) h.states.now chains.unasked.items f.level w.level lead.unasked good is.enough inside
         asks);

@@ -14,21 +14,23 @@ use Rattle.review_grants.specs.Rows.{is_row}
 use Rattle.review_roots.specs.declared.block.Block.{Block}
 use Rattle.review_roots.specs.declared.given.AllowingRow.{AllowingRow}
 use Rattle.review_roots.specs.declared.given.Given.{Given}
-use Rattle.review_roots.specs.Levels.{after_one, target_rows}
+use Rattle.review_roots.specs.Levels.{after_marks, after_one, denies, target_rows}
 use Rattle.review_roots.specs.Passwords.{after_free, after_unasked}
 use Rattle.review_roots.specs.Asked.{is_allowing, allowing_row, given_by, nothing}
 use Rattle.review_roots.specs.Blocks.{Row, row_of, block_row, block_rows, AreBlocks, with_row, with_rows, stands}
 use Rattle.review_roots.specs.Blocks.{standing_rows}
+use Rattle.review_roots.proofs.NoteLemmas.{grant_stands}
 use Rattle.review_roots.proofs.ListSteps.{filter-constant, filter-mapped, filter-twice}
 
 -- ---- Rows, one after the other
 
-given_from : Given → List Grant → Given
-given_from a gs = record {
-  level = fold after_one a.level gs;
-  free = fold after_free a.free gs;
-  unasked = fold after_unasked a.unasked gs;
+given_from : Policy → Given → List Grant → Given
+given_from p a gs = record {
+  level = fold (after_one p) a.level gs;
+  free = fold (after_free p) a.free gs;
+  unasked = fold (after_unasked p) a.unasked gs;
   by = option_or (option_map allowing_row (last_that is_allowing gs)) a.by;
+  marks = fold (after_marks p) a.marks gs;
 }
 
 allowing_step :
@@ -39,28 +41,35 @@ allowing_step (Some h) n g by = refl
 allowing_step None true g by = refl
 allowing_step None false g by = refl
 
-rows_give : (gs : List Grant) (a : Given) → with_rows a (map row_of gs) ≡ given_from a gs
+rows_give : (p : Policy) (gs : List Grant) (a : Given) → with_rows a (map (row_of p) gs) ≡ given_from p a gs
 unfolding given_from
-rows_give [] a = refl
-rows_give (g ∷ gs) a =
-    rows_give gs (with_row a (row_of g))
+rows_give p [] a = refl
+rows_give p (g ∷ gs) a =
+    rows_give p gs (with_row a (row_of p g))
     ∙ ap (λ o. record {
-      level = fold after_one (after_one a.level g) gs;
-      free = fold after_free (after_free a.free g) gs;
-      unasked = fold after_unasked (after_unasked a.unasked g) gs;
+      level = fold (after_one p) (after_one p a.level g) gs;
+      free = fold (after_free p) (after_free p a.free g) gs;
+      unasked = fold (after_unasked p) (after_unasked p a.unasked g) gs;
       by = o;
+      marks = fold (after_marks p) (after_marks p a.marks g) gs;
     })
-    (allowing_step (last_that is_allowing gs) g.negated g a.by)
+    (allowing_step (last_that is_allowing gs) (denies g) g a.by)
 
 from_nothing : (o : Option AllowingRow) → option_or o None ≡ o
 from_nothing None = refl
 from_nothing (Some r) = refl
 
-pub rows_give_all : (gs : List Grant) → with_rows nothing (map row_of gs) ≡ given_by gs
+pub rows_give_all : (p : Policy) (gs : List Grant) → with_rows nothing (map (row_of p) gs) ≡ given_by p gs
 unfolding given_from
-rows_give_all gs =
-    rows_give gs nothing
-    ∙ ap (λ o. record { level = (given_by gs).level; free = (given_by gs).free; unasked = (given_by gs).unasked; by = o })
+rows_give_all p gs =
+    rows_give p gs nothing
+    ∙ ap (λ o. record {
+      level = (given_by p gs).level;
+      free = (given_by p gs).free;
+      unasked = (given_by p gs).unasked;
+      by = o;
+      marks = (given_by p gs).marks;
+    })
     (from_nothing (option_map allowing_row (last_that is_allowing gs)))
 
 -- ---- The blocks that stand have the rows for the target
@@ -68,9 +77,6 @@ rows_give_all gs =
 -- the row's user list allows the user, its host list the host, and its runas the question
 abbrev row_stands : Policy → Question → Row → Bool
 row_stands p q r = user_allowed p r.users q.user && (host_allowed p r.hosts q.host && runas_allows p q r.runas)
-
-abbrev grant_stands : Policy → Question → Grant → Bool
-grant_stands p q g = user_allowed p g.users q.user && (host_allowed p g.hosts q.host && runas_allows p q g.runas)
 
 standing_are : (p : Policy) (q : Question) (bs : List Block) → flat_map (standing_rows p q) bs
     ≡ filter (row_stands p q) (flat_map block_rows bs)
@@ -85,7 +91,7 @@ both_ways : (a h r : Bool) → (a && (h && r)) ≡ ((a && h) && r)
 both_ways true h r = refl
 both_ways false h r = refl
 
-rows_for_target : (p : Policy) (q : Question) → filter (grant_stands p q) (grants p) ≡ target_rows p q
+pub rows_for_target : (p : Policy) (q : Question) → filter (grant_stands p q) (grants p) ≡ target_rows p q
 rows_for_target p q =
     sym (filter-twice (λ g. runas_allows p q g.runas) (is_row p q.user q.host) (grant_stands p q)
     (λ g. both_ways (user_allowed p g.users q.user) (host_allowed p g.hosts q.host) (runas_allows p q g.runas)) (grants p))
@@ -93,10 +99,10 @@ rows_for_target p q =
 -- what the blocks that stand give
 pub blocks_give :
     (p : Policy) (q : Question) (bs : List Block) → AreBlocks p bs → with_rows nothing (flat_map (standing_rows p q) bs)
-    ≡ given_by (target_rows p q)
+    ≡ given_by p (target_rows p q)
 blocks_give p q bs tied =
     ap (with_rows nothing)
     (standing_are p q bs ∙ ap (filter (row_stands p q)) tied
-    ∙ filter-mapped (row_stands p q) row_of (grants p)
-    ∙ ap (map row_of) (rows_for_target p q))
-    ∙ rows_give_all (target_rows p q)
+    ∙ filter-mapped (row_stands p q) (row_of p) (grants p)
+    ∙ ap (map (row_of p)) (rows_for_target p q))
+    ∙ rows_give_all p (target_rows p q)

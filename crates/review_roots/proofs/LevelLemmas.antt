@@ -1,57 +1,30 @@
--- What a level says of the last row that matches a command.
-use Rattle.std.proofs.Common.{◌≡◌, ℕ, Bool, true, false, not, cond, ◌&&◌, List, [], ◌∷◌, Option, Some, None, refl, sym, ◌∙◌, ap, subst}
-use Rattle.std.specs.Prelude.{fold, unwrap_or, option_map}
+-- What a level says of the last row of which a test holds.
+use Rattle.std.proofs.Common.{◌≡◌, ◌∙◌, ℕ, Bool, true, false, not, cond, ◌&&◌, ◌||◌, List, [], ◌∷◌, Option, Some, None, refl, sym, ap, subst}
+use Rattle.std.specs.Prelude.{filter, fold, unwrap_or, option_map}
 use Rattle.std.specs.Option.{option_or}
 use Rattle.sudo_text.specs.declared.line.Place.{Place}
-use Rattle.sudo_grammar.specs.declared.kind.Atom.{Atom}
-use Rattle.sudo_grammar.specs.declared.kind.Atom.TheVariants as atom
-use Rattle.sudo_grammar.specs.declared.kind.Member.{Member}
 use Rattle.sudo_grammar.specs.declared.policy.Policy.{Policy}
-use Rattle.sudo_grammar.specs.declared.policy.Runas.{Runas}
-use Rattle.sudo_match.specs.declared.people.Person.{Person}
 use Rattle.sudo_match.specs.declared.request.Tags.{Tags}
 use Rattle.sudo_match.specs.Matching.{command_fits}
 use Rattle.sudo_verdict.specs.Last.{last_that}
 use Rattle.sudo_verdict.specs.Values.{is_all}
-use Rattle.sudo_verdict.specs.RunasForms.{root_allowed, users_allow, users_and_groups_allow, form_allows, runas_allows}
+use Rattle.sudo_verdict.specs.RunasForms.{runas_allows}
 use Rattle.sudo_verdict.specs.Questions.{Question}
-use Rattle.sudo_verdict.specs.Grants.{Grant}
+use Rattle.sudo_verdict.specs.Grants.{Grant, applies, grants}
 use Rattle.sudo_verdict.specs.Verdicts.{decided_by, verdict_if_any, verdict_on}
 use Rattle.review_roots.specs.declared.level.Level.{Level}
 use Rattle.review_roots.specs.declared.level.Level.TheVariants as level
+use Rattle.review_grants.specs.declared.marks.Marks.{Marks}
+use Rattle.review_grants.specs.Depends.{is_note_grant, is_unmarked, joined_marks, marks_at, unmarked}
 use Rattle.review_grants.specs.Rows.{rows, row_applies}
-use Rattle.review_roots.specs.Levels.{after_signed, after_one, level_of, target_rows, with_command, allowed, AllAllowsAll, NoneAllowsNone}
+use Rattle.review_grants.specs.Unnoted.{FailsByNotes}
+use Rattle.review_roots.specs.Ranks.{best, is_at_least}
+use Rattle.review_roots.specs.Levels.{after_signed, after_marks, after_one, after_row, allowed, denies, level_of, lowered, marks_of}
+use Rattle.review_roots.specs.Levels.{raised, target_rows, verdict_where, with_command, AllAllowsAll, NoneAllowsNone, VerdictIsWhere}
 use Rattle.review_grants.proofs.RowLemmas.{last_that-filter, last_row}
-
--- ---- The runas of a row does not read the command
-
-root_same : (q : Question) (c x : List ℕ) (t : Option Person) → root_allowed (with_command q c x) t ≡ root_allowed q t
-root_same q c x None = refl
-root_same q c x (Some t) = refl
-
-users_same : (p : Policy) (q : Question) (c x : List ℕ) (us : List Member) (t : Option Person) → users_allow p (with_command q c x) us t
-    ≡ users_allow p q us t
-users_same p q c x us None = refl
-users_same p q c x us (Some t) = refl
-
-both_same :
-    (p : Policy) (q : Question) (c x : List ℕ) (us gs : List Member) (t : Option Person) →
-    users_and_groups_allow p (with_command q c x) us gs t ≡ users_and_groups_allow p q us gs t
-both_same p q c x us gs None = refl
-both_same p q c x us gs (Some t) = refl
-
-form_same :
-    (p : Policy) (q : Question) (c x : List ℕ) (a b : Option (List Member)) → form_allows p (with_command q c x) a b ≡ form_allows p q a b
-unfolding form_allows
-form_same p q c x (Some us) (Some gs) = both_same p q c x us gs q.target
-form_same p q c x (Some us) None = users_same p q c x us q.target
-form_same p q c x None (Some gs) = refl
-form_same p q c x None None = refl
-
-pub runas_same : (p : Policy) (q : Question) (c x : List ℕ) (r : Option Runas) → runas_allows p (with_command q c x) r ≡ runas_allows p q r
-unfolding runas_allows
-runas_same p q c x None = root_same q c x q.target
-runas_same p q c x (Some r) = form_same p q c x r.users r.groups
+use Rattle.review_roots.proofs.GivenLemmas.{rows_for_target}
+use Rattle.review_roots.proofs.LevelSteps.{runas_same}
+use Rattle.review_roots.proofs.NoteLemmas.{grant_stands, holds-of-all, holds-of-no-note, joined-marked, note-not-all, or-false, or-true, unheld}
 
 -- ---- The verdict, from the rows for the target
 
@@ -90,55 +63,152 @@ one_more (Some h) e b g = refl
 one_more None true b g = refl
 one_more None false b g = refl
 
--- what a level says of the answer so far
-abbrev pub Says : Level → Bool → Type 0
-Says level.None b = b ≡ false
-Says level.Listed b = Unit {0}
-Says level.AllBut b = Unit {0}
-Says level.All b = b ≡ true
+-- what a level and the notes on which it depends say of the answer so far
+abbrev pub Says : Level → Marks → Bool → Type 0
+Says l m b = (l ≡ level.None → b ≡ false) × (m ≡ unmarked → l ≡ level.All → b ≡ true)
 
-pub all_matches : (c x : List ℕ) (a : Atom) → is_all a ≡ true → command_fits a c x ≡ true
-unfolding command_fits
-all_matches c x atom.All e = refl
-all_matches c x _ e = cc
+lowered-none : (l : Level) → lowered l ≡ level.None → l ≡ level.None
+lowered-none level.None e = refl
+lowered-none level.Listed e = cc
+lowered-none level.AllBut e = cc
+lowered-none level.All e = cc
 
-pub denied : (l : Level) (d b : Bool) → Says l b → Says (after_signed l true false) (cond d false b)
-denied level.None true b s = refl
-denied level.None false b s = s
-denied level.Listed d b s = tt
-denied level.AllBut d b s = tt
-denied level.All d b s = tt
+lowered-not-all : (l : Level) → lowered l ≡ level.All → level.None ≡ level.All
+lowered-not-all level.None e = cc
+lowered-not-all level.Listed e = cc
+lowered-not-all level.AllBut e = cc
+lowered-not-all level.All e = cc
 
-pub listed : (l : Level) (d b : Bool) → Says l b → Says (after_signed l false false) (cond d true b)
-listed level.None d b s = tt
-listed level.Listed d b s = tt
-listed level.AllBut d b s = tt
-listed level.All true b s = refl
-listed level.All false b s = s
+raised-not-none : (l : Level) → raised l ≡ level.None → level.None ≡ level.All
+raised-not-none level.None e = cc
+raised-not-none level.Listed e = cc
+raised-not-none level.AllBut e = cc
+raised-not-none level.All e = cc
 
-pub step : (l : Level) (n a d b : Bool) → (a ≡ true → d ≡ true) → Says l b → Says (after_signed l n a) (cond d (not n) b)
-step l true true d b every s = ap (λ v. cond v false b) (every refl)
-step l false true d b every s = ap (λ v. cond v true b) (every refl)
-step l true false d b every s = denied l d b s
-step l false false d b every s = listed l d b s
+raised-all : (l : Level) → raised l ≡ level.All → l ≡ level.All
+raised-all level.None e = cc
+raised-all level.Listed e = cc
+raised-all level.AllBut e = cc
+raised-all level.All e = refl
 
-says :
-    (d : Grant → Bool) → ((g : Grant) → is_all g.atom ≡ true → d g ≡ true) → (gs : List Grant) (l : Level) (b : Bool) → Says l b →
-    Says (fold after_one l gs) (allows_last (last_that d gs) b)
-says d every [] l b s = s
-says d every (g ∷ gs) l b s =
-    subst (Says (fold after_one (after_one l g) gs)) (one_more (last_that d gs) (d g) b g)
-    (says d every gs (after_one l g) (cond (d g) (sign g) b) (step l g.negated (is_all g.atom) (d g) b (every g) s))
+best-none : (l k : Level) → best l k ≡ level.None → (l ≡ level.None) × (k ≡ level.None)
+best-none level.None level.None e = (refl, refl)
+best-none level.None level.Listed e = cc
+best-none level.None level.AllBut e = cc
+best-none level.None level.All e = cc
+best-none level.Listed level.None e = cc
+best-none level.Listed level.Listed e = cc
+best-none level.Listed level.AllBut e = cc
+best-none level.Listed level.All e = cc
+best-none level.AllBut level.None e = cc
+best-none level.AllBut level.Listed e = cc
+best-none level.AllBut level.AllBut e = cc
+best-none level.AllBut level.All e = cc
+best-none level.All level.None e = cc
+best-none level.All level.Listed e = cc
+best-none level.All level.AllBut e = cc
+best-none level.All level.All e = cc
 
-pub level_says :
-    (p : Policy) (q : Question) (c x : List ℕ) → Says (level_of (target_rows p q)) (allowed (verdict_on p (with_command q c x)))
-level_says p q c x =
-    subst (Says (level_of (target_rows p q)))
-    (sym (ap allowed (target_decides p q c x) ∙ verdict_allowed (last_that (fitting c x) (target_rows p q))))
-    (says (fitting c x) (λ g. all_matches c x g.atom) (target_rows p q) level.None false refl)
+-- a row without notes: whether it is negated, whether it is ALL, and whether the test holds of it
+plain-step : (l : Level) (m : Marks) (n a d b : Bool) → (a ≡ true → d ≡ true) → Says l m b
+    → Says (after_signed l n a) (cond a unmarked m) (cond d (not n) b)
+plain-step l m true true d b every s = (λ e. ap (λ v. cond v false b) (every refl), λ e all. cc)
+plain-step l m false true d b every s = (λ e. cc, λ e all. ap (λ v. cond v true b) (every refl))
+plain-step l m true false true b every s = (λ e. refl, λ e all. absurd (let bad = lowered-not-all l all in cc))
+plain-step l m true false false b every s = (λ e. s.0 (lowered-none l e), λ e all. absurd (let bad = lowered-not-all l all in cc))
+plain-step l m false false true b every s = (λ e. absurd (let bad = raised-not-none l e in cc), λ e all. refl)
+plain-step l m false false false b every s =
+    (λ e. absurd (let bad = raised-not-none l e in cc), λ e all. s.1 e (raised-all l all))
+
+after-none : (l : Level) (n a : Bool) → after_signed l n a ≡ level.None → n ≡ true
+after-none l true a e = refl
+after-none l false true e = cc
+after-none l false false e = absurd (let bad = raised-not-none l e in cc)
+
+-- a row with notes
+noted-step : (l : Level) (m own : Marks) (n a d b : Bool) → is_unmarked own ≡ false → Says l m b
+    → Says (best l (after_signed l n a)) (joined_marks m own) (cond d (not n) b)
+noted-step l m own n a d b noted s = (
+  λ e. go d n (after-none l n a (best-none l (after_signed l n a) e).1) (s.0 (best-none l (after_signed l n a) e).0),
+  λ e all. absurd (let bad = joined-marked m own noted e in cc),
+)
+  where
+    go : (d n : Bool) → n ≡ true → b ≡ false → cond d (not n) b ≡ false
+    go true true e is = refl
+    go true false e is = cc
+    go false n e is = is
+
+-- a row that stands for a note: the test holds of none
+note-step : (l : Level) (m own : Marks) (b : Bool) → Says l m b
+    → Says (after_row own l true false) (cond (is_unmarked own) m (joined_marks m own)) b
+note-step l m own b s = go (is_unmarked own) refl
+  where
+    go : (c : Bool) → is_unmarked own ≡ c
+        → Says (cond c (lowered l) (best l (lowered l))) (cond c m (joined_marks m own)) b
+    go true is = plain-step l m true false false b (λ e. cc) s
+    go false is = noted-step l m own true false false b is s
+
+module _ (p : Policy) (q : Question) (c x : List ℕ) (f : Grant → Bool) (fails : FailsByNotes p (with_command q c x) f) where
+  -- a row for the target
+  step : (g : Grant) (l : Level) (m : Marks) (b : Bool) → grant_stands p q g ≡ true → Says l m b
+      → Says (after_one p l g) (after_marks p m g) (cond (f g) (sign g) b)
+  step g l m b stands s = go (is_note_grant g) refl
+    where
+      plain : (k : Bool) → is_unmarked (marks_at p g.place) ≡ k
+          → Says (cond k (after_signed l g.negated (is_all g.atom)) (best l (after_signed l g.negated (is_all g.atom))))
+          (cond k (cond (is_all g.atom) unmarked m) (joined_marks m (marks_at p g.place))) (cond (f g) (not g.negated) b)
+      plain true none =
+          plain-step l m g.negated (is_all g.atom) (f g) b (λ all. holds-of-all p q c x f fails g stands all none) s
+      plain false some = noted-step l m (marks_at p g.place) g.negated (is_all g.atom) (f g) b some s
+
+      go : (k : Bool) → is_note_grant g ≡ k
+          → Says (after_row (marks_at p g.place) l (g.negated || is_note_grant g) (is_all g.atom)) (after_marks p m g) (cond (f g) (sign g) b)
+      go false is =
+          subst (λ n. Says (after_row (marks_at p g.place) l n (is_all g.atom)) (after_marks p m g) (cond (f g) (sign g) b))
+          (sym (ap (λ k. g.negated || k) is ∙ or-false g.negated))
+          (plain (is_unmarked (marks_at p g.place)) refl)
+      go true is =
+          subst (λ n. Says (after_row (marks_at p g.place) l n (is_all g.atom)) (after_marks p m g) (cond (f g) (sign g) b))
+          (sym (ap (λ k. g.negated || k) is ∙ or-true g.negated))
+          (subst (λ a. Says (after_row (marks_at p g.place) l true a) (cond (is_unmarked (marks_at p g.place)) (cond a unmarked m) (joined_marks m (marks_at p g.place)))
+          (cond (f g) (sign g) b)) (sym (note-not-all g.atom is))
+          (subst (λ d. Says (after_row (marks_at p g.place) l true false) (cond (is_unmarked (marks_at p g.place)) m (joined_marks m (marks_at p g.place))) (cond d (sign g) b))
+          (sym (holds-of-no-note p q c x f fails g is)) (note-step l m (marks_at p g.place) b s)))
+
+  says :
+      (gs : List Grant) (l : Level) (m : Marks) (b : Bool) → Says l m b →
+      Says (fold (after_one p) l (filter (grant_stands p q) gs)) (fold (after_marks p) m (filter (grant_stands p q) gs))
+      (allows_last (last_that f gs) b)
+  says [] l m b s = s
+  says (g ∷ gs) l m b s = go (grant_stands p q g) refl
+    where
+      go : (k : Bool) → grant_stands p q g ≡ k
+          → Says (fold (after_one p) l (cond k (g ∷ filter (grant_stands p q) gs) (filter (grant_stands p q) gs)))
+          (fold (after_marks p) m (cond k (g ∷ filter (grant_stands p q) gs) (filter (grant_stands p q) gs)))
+          (allows_last (option_or (last_that f gs) (cond (f g) (Some g) None)) b)
+      go true is =
+          subst (Says (fold (after_one p) (after_one p l g) (filter (grant_stands p q) gs))
+          (fold (after_marks p) (after_marks p m g) (filter (grant_stands p q) gs)))
+          (one_more (last_that f gs) (f g) b g)
+          (says gs (after_one p l g) (after_marks p m g) (cond (f g) (sign g) b) (step g l m b is s))
+      go false is =
+          subst (Says (fold (after_one p) l (filter (grant_stands p q) gs)) (fold (after_marks p) m (filter (grant_stands p q) gs)))
+          (ap (λ d. allows_last (last_that f gs) (cond d (sign g) b)) (sym (unheld p q c x f fails g is)) ∙ one_more (last_that f gs) (f g) b g)
+          (says gs l m b s)
+
+  pub level_says : Says (level_of p (target_rows p q)) (marks_of p (target_rows p q)) (allowed (verdict_where p f))
+  level_says =
+      subst (λ gs. Says (level_of p gs) (marks_of p gs) (allowed (verdict_where p f))) (rows_for_target p q)
+      (subst (Says (level_of p (filter (grant_stands p q) (grants p))) (marks_of p (filter (grant_stands p q) (grants p))))
+      (sym (verdict_allowed (last_that f (grants p))))
+      (says (grants p) level.None unmarked false (λ e. refl, λ e all. cc)))
 
 pub all_allows : AllAllowsAll
-all_allows p q e c x = subst (λ l. Says l (allowed (verdict_on p (with_command q c x)))) e (level_says p q c x)
+all_allows p q level none c x f fails = (level_says p q c x f fails).1 none level
 
 pub none_allows : NoneAllowsNone
-none_allows p q e c x = subst (λ l. Says l (allowed (verdict_on p (with_command q c x)))) e (level_says p q c x)
+none_allows p q level c x f fails = (level_says p q c x f fails).0 level
+
+pub verdict_is_where : VerdictIsWhere
+unfolding verdict_on
+verdict_is_where p q = (record { only = λ g does. does; unnoted = λ g none does. does }, refl)

@@ -1,4 +1,5 @@
 pub mod LevelLemmas
+pub mod LevelSteps
 pub mod PasswordLemmas
 pub mod LevelVectors
 pub mod StepVectors
@@ -28,5 +29,6 @@ pub mod AlikeLemmas
 pub mod UserLemmas
 pub mod KeptLemmas
 pub mod NamingLemmas
+pub mod NoteLemmas
 pub mod MayLemmas
 pub mod PathLemmas

@@ -36,8 +36,11 @@ use Rattle.review_roots.specs.Ways.{IsChain, step_password, worse}
 use Rattle.review_roots.proofs.GivenLemmas.{blocks_give}
 use Rattle.review_roots.proofs.IndexLemmas.{answer-at, parts-are}
 use Rattle.review_roots.proofs.SearchLemmas.{from-map, to-map}
-use Rattle.review_roots.specs.Body.Passing.{HasPassword, HasRow, LeadsWhole}
-use Rattle.review_roots.proofs.WayLemmas.{AsksSoFar, LeadsSoFar, RowSoFar, asks-all, asks-more, leads-more, leads-all, row-all, row-more}
+use Rattle.review_grants.specs.declared.marks.Marks.{Marks}
+use Rattle.review_grants.specs.Depends.{joined_marks}
+use Rattle.review_roots.specs.Body.Passing.{HasMarks, HasPassword, HasRow, LeadsWhole}
+use Rattle.review_roots.proofs.WayLemmas.{AsksSoFar, LeadsSoFar, MarksSoFar, RowSoFar, asks-all, asks-more, leads-more, leads-all}
+use Rattle.review_roots.proofs.WayLemmas.{marks-all, marks-more, row-all, row-more}
 
 pub there : {X : Type 0} (xs : List X) (i : ℕ) (d : X) → i < length xs → slice_get xs i ≡ Some (get_or xs i d)
 there [] i d less = absurd (omega (arith, less))
@@ -124,6 +127,24 @@ chain-asks found user index at next chain new so_far after d k e inside also is 
     (asks-more found user index at next chain so_far (get_or found at k) (get_or found next e) (there found at k inside)
     (ap (λ (f : Found). f.next) (same-there found at k d inside) ∙ is) (there found next e also) asks))
 
+pub chain-marks :
+    (found : List Found) (index at next : ℕ) (chain new : List State) (so_far after : Marks) (d k e : Found) →
+    at < length found → next < length found → (get_or found at d).next ≡ Some next → new ≡ chain ++ (get_or found next e).state ∷ [] →
+    after ≡ joined_marks so_far (get_or found at k).given.marks →
+    MarksSoFar found index at chain so_far → MarksSoFar found index next new after
+chain-marks found index at next chain new so_far after d k e inside also is more joins marks =
+    subst (MarksSoFar found index next new) (sym joins)
+    (subst (λ c. MarksSoFar found index next c (joined_marks so_far (get_or found at k).given.marks))
+    (sym more)
+    (marks-more found index at next chain so_far (get_or found at k) (get_or found next e) (there found at k inside)
+    (ap (λ (f : Found). f.next) (same-there found at k d inside) ∙ is) (there found next e also) marks))
+
+pub chain-marked :
+    (found : List Found) (index at : ℕ) (chain : List State) (marks : Marks) (d : Found) → at < length found →
+    MarksSoFar found index at chain marks → HasMarks found index chain marks
+chain-marked found index at chain marks d inside so_far =
+    marks-all found index at chain marks (get_or found at d) (there found at d inside) so_far
+
 pub chain-row :
     (found : List Found) (index at next : ℕ) (chain new : List State) (d e : Found) → at < length found → next < length found →
     (get_or found at d).next ≡ Some next → new ≡ chain ++ (get_or found next e).state ∷ [] → RowSoFar found index at chain
@@ -162,14 +183,25 @@ states-inside g found right s c =
 
 pub way-is :
     (h : HostSteps) (q : Sought) (least : Level) (found : List Found) (index : ℕ) (d f : Found) (chain : Vec State Global)
-    (password : Password) → AreFound (steps_of h q) h.states.now least found → AreGiven h found → index < length found →
+    (password : Password) (marks : Marks) → AreFound (steps_of h q) h.states.now least found → AreGiven h found → index < length found →
     slice_get found index ≡ Some f → LeadsWhole found index chain.items → All (Contains (found_states found)) chain.items →
     HasRow found index chain.items → HasPassword found (get_or found index d).state.user index chain.items password →
-    IsChain h q least f.state
-    (record { level = (get_or found index d).level; chain = chain; by = (get_or found index d).given.by; password = password })
-way-is h q least found index d f chain password are given inside at leads within row asks =
-    subst (λ (e : Found). IsChain h q least e.state
-    (record { level = (get_or found index d).level; chain = chain; by = (get_or found index d).given.by; password = password })) this
+    HasMarks found index chain.items marks →
+    IsChain h q least f.state (record {
+      level = (get_or found index d).level;
+      chain = chain;
+      by = (get_or found index d).given.by;
+      password = password;
+      marks = marks;
+    })
+way-is h q least found index d f chain password marks are given inside at leads within row asks depends =
+    subst (λ (e : Found). IsChain h q least e.state (record {
+      level = (get_or found index d).level;
+      chain = chain;
+      by = (get_or found index d).given.by;
+      password = password;
+      marks = marks;
+    })) this
     (record {
       inside = All-weaker (Contains (found_states found)) (Contains (steps_of h q).states)
           (states-inside (steps_of h q) found are.right) chain.items within;
@@ -179,6 +211,7 @@ way-is h q least found index d f chain password are given inside at leads within
           (Contains-get_or found index d inside);
       by = row h (get_or found index d) given (there found index d inside);
       password = asks h (get_or found index d) given (there found index d inside);
+      marks = depends h (get_or found index d) given (there found index d inside);
     })
   where
     this : get_or found index d ≡ f

@@ -23,12 +23,14 @@ use Rattle.review_roots.specs.declared.level.Level.TheVariants as level
 use Rattle.review_roots.specs.declared.may.May.{May}
 use Rattle.review_roots.specs.Asked.{better, given_alone, given_asked, is_better, nothing}
 use Rattle.review_roots.specs.Blocks.{block_rows, is_for, lists, standing_rows, stands, with_row, with_rows}
-use Rattle.review_roots.specs.Body.Effects.{free_by, level_behind, level_by, unasked_by}
+use Rattle.review_grants.specs.declared.marks.Marks.{Marks}
+use Rattle.review_grants.specs.Depends.{is_unmarked}
+use Rattle.review_roots.specs.Body.Effects.{free_by, level_behind, level_by, marks_by, unasked_by}
 use Rattle.review_roots.specs.Body.Found.{IsCandidate}
 use Rattle.review_roots.specs.Body.May.{may_at, may_count, may_reach, may_for, may_if, may_nothing, may_of, may_with, unasked_behind}
 use Rattle.review_roots.specs.Body.Raising.{indices, indices_from}
 use Rattle.review_roots.specs.Body.Rows.{by_behind}
-use Rattle.review_roots.specs.Levels.{after_signed, lowered, raised}
+use Rattle.review_roots.specs.Levels.{after_row, after_signed, lowered, raised}
 use Rattle.review_roots.specs.Ranks.{best, is_at_least, rank}
 use Rattle.review_roots.specs.States.{given_between, level_for}
 use Rattle.review_roots.proofs.EffectLemmas.{block-gives, level-by-effect}
@@ -78,19 +80,6 @@ after-more l m true false e = lowered-more l m e
 after-more l m false true e = refl
 after-more l m false false e = raised-more l m e
 
-signs-more : (ss : List Sign) (l m : Level) → is_at_least l m ≡ true → is_at_least (level_behind l ss) (level_behind m ss) ≡ true
-signs-more [] l m e = e
-signs-more (s ∷ ss) l m e =
-    signs-more ss (after_signed l s.negated s.all) (after_signed m s.negated s.all) (after-more l m s.negated s.all e)
-
-level-more : (b : Block) (l m : Level) → is_at_least l m ≡ true → is_at_least (level_by b.effect l) (level_by b.effect m) ≡ true
-level-more b l m e =
-    ap (λ x. is_at_least x (level_by b.effect m)) (at l) ∙ ap (is_at_least (level_behind l b.signs.items)) (at m)
-    ∙ signs-more b.signs.items l m e
-  where
-    at : (l : Level) → level_by b.effect l ≡ level_behind l b.signs.items
-    at l = ap (λ e. level_by e l) b.effective ∙ level-by-effect b.tags b.signs.items l
-
 best-left : (l m : Level) → is_at_least l (best l m) ≡ true
 best-left l m = go (is_at_least l m) refl
   where
@@ -104,6 +93,42 @@ best-right l m = go (is_at_least l m) refl
     go : (c : Bool) → is_at_least l m ≡ c → is_at_least m (cond c m l) ≡ true
     go true e = at-least-itself m
     go false e = let less = not-at-least l m e in at-least-below m l (omega (arith, less))
+
+-- what both are at most is the better of them at most
+best-least : (l k m : Level) → is_at_least l m ≡ true → is_at_least k m ≡ true → is_at_least (best l k) m ≡ true
+best-least l k m first second = go (is_at_least l k)
+  where
+    go : (c : Bool) → is_at_least (cond c k l) m ≡ true
+    go true = second
+    go false = first
+
+row-more : (marks : Marks) (l m : Level) (n a : Bool) → is_at_least l m ≡ true
+    → is_at_least (after_row marks l n a) (after_row marks m n a) ≡ true
+row-more marks l m n a e = go (is_unmarked marks)
+  where
+    after : is_at_least (after_signed l n a) (after_signed m n a) ≡ true
+    after = after-more l m n a e
+
+    go : (k : Bool) → is_at_least (cond k (after_signed l n a) (best l (after_signed l n a)))
+        (cond k (after_signed m n a) (best m (after_signed m n a))) ≡ true
+    go true = after
+    go false = best-least l (after_signed l n a) (best m (after_signed m n a))
+        (at-least-trans l m (best m (after_signed m n a)) e (best-left m (after_signed m n a)))
+        (at-least-trans (after_signed l n a) (after_signed m n a) (best m (after_signed m n a)) after (best-right m (after_signed m n a)))
+
+signs-more : (marks : Marks) (ss : List Sign) (l m : Level) → is_at_least l m ≡ true
+    → is_at_least (level_behind marks l ss) (level_behind marks m ss) ≡ true
+signs-more marks [] l m e = e
+signs-more marks (s ∷ ss) l m e =
+    signs-more marks ss (after_row marks l s.negated s.all) (after_row marks m s.negated s.all) (row-more marks l m s.negated s.all e)
+
+level-more : (b : Block) (l m : Level) → is_at_least l m ≡ true → is_at_least (level_by b.effect l) (level_by b.effect m) ≡ true
+level-more b l m e =
+    ap (λ x. is_at_least x (level_by b.effect m)) (at l) ∙ ap (is_at_least (level_behind b.marks l b.signs.items)) (at m)
+    ∙ signs-more b.marks b.signs.items l m e
+  where
+    at : (l : Level) → level_by b.effect l ≡ level_behind b.marks l b.signs.items
+    at l = ap (λ e. level_by e l) b.effective ∙ level-by-effect b.marks b.tags b.signs.items l
 
 -- ---- What is given is at most what may be given
 
@@ -160,7 +185,8 @@ module _ (b : Block) (a : Given) (m : May) (within : IsWithin a m) where
   with-standing : IsWithin (with_rows a (block_rows b)) (may_with m b)
   with-standing =
       subst (λ x. IsWithin x (may_with m b))
-      (block-gives b a (level_by e a.level) (free_by e a.free) (unasked_by e a.unasked) (by_behind b a.by) refl refl refl refl) (record {
+      (block-gives b a (level_by e a.level) (free_by e a.free) (unasked_by e a.unasked) (by_behind b a.by)
+      (marks_by e a.marks) refl refl refl refl refl) (record {
         level = at-least-trans (level_by e a.level) (level_by e m.level) (best m.level (level_by e m.level))
             (level-more b a.level m.level within.level) (best-right m.level (level_by e m.level));
         unasked = λ is. at-least-trans (level_by e a.level) (unasked_behind m e) (best m.unasked (unasked_behind m e))

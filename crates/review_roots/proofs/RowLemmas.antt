@@ -21,8 +21,9 @@ use Rattle.review_roots.specs.Asked.{better, given_alone, given_asked, given_by,
 use Rattle.review_roots.specs.Blocks.{Row, row_of, with_row, with_rows}
 use Rattle.review_roots.specs.Sought.{any_steps}
 use Rattle.review_roots.specs.Chains.{LeadsAlong}
-use Rattle.review_roots.specs.Levels.{after_signed, target_rows}
-use Rattle.review_roots.specs.Ranks.{is_at_least}
+use Rattle.review_grants.specs.Depends.{is_unmarked}
+use Rattle.review_roots.specs.Levels.{after_row, after_signed, target_rows}
+use Rattle.review_roots.specs.Ranks.{best, is_at_least}
 use Rattle.review_roots.specs.Roots.{has_zero, is_itself}
 use Rattle.review_roots.specs.States.{given_between, group_at, person_of, state_with}
 use Rattle.review_roots.specs.Ways.{IsWay, first_row, step_on}
@@ -40,18 +41,22 @@ kept-none false = refl
 row_more : (a : Given) (r : Row) → HasRow a → HasRow (with_row a r)
 row_more a r has = go r.negated
   where
+    kept : (k : Bool) → cond k (after_signed level.None true r.all) (best level.None (after_signed level.None true r.all)) ≡ level.None
+    kept true = kept-none r.all
+    kept false = ap (best level.None) (kept-none r.all)
+
     go :
         (n : Bool) → cond n a.by (Some (record { place = r.place; tags = r.tags })) ≡ None →
-        after_signed a.level n r.all ≡ level.None
-    go true e = ap (λ l. after_signed l true r.all) (has e) ∙ kept-none r.all
+        after_row r.marks a.level n r.all ≡ level.None
+    go true e = ap (λ l. after_row r.marks l true r.all) (has e) ∙ kept (is_unmarked r.marks)
     go false e = cc
 
 rows_more : (rs : List Row) (a : Given) → HasRow a → HasRow (with_rows a rs)
 rows_more [] a has = has
 rows_more (r ∷ rs) a has = rows_more rs (with_row a r) (row_more a r has)
 
-given_has : (gs : List Grant) → HasRow (given_by gs)
-given_has gs = subst HasRow (rows_give_all gs) (rows_more (map row_of gs) nothing (λ e. refl))
+given_has : (p : Policy) (gs : List Grant) → HasRow (given_by p gs)
+given_has p gs = subst HasRow (rows_give_all p gs) (rows_more (map (row_of p) gs) nothing (λ e. refl))
 
 better_has : (a b : Given) → HasRow a → HasRow b → HasRow (better a b)
 better_has a b h k = go (is_better a b)
@@ -64,7 +69,7 @@ alone_has : (p : Policy) (d : KnownRows) (m : Machine) (u v : Person) (g : Optio
 alone_has p d m u v g = go (is_same_user v u && is_some g)
   where
     go : (c : Bool) → HasRow (cond c (given_asked p d u m None g) nothing)
-    go true = given_has (target_rows p (question_as d u m None g))
+    go true = given_has p (target_rows p (question_as d u m None g))
     go false = λ e. refl
 
 between_has : (p : Policy) (d : KnownRows) (m : Machine) (u v : Option Person) (g : Option Group) → HasRow (given_between p d m u v g)
@@ -72,7 +77,7 @@ between_has p d m None v g = λ e. refl
 between_has p d m (Some u) None g = λ e. refl
 between_has p d m (Some u) (Some v) g =
     better_has (given_asked p d u m (Some v) g) (given_alone p d m u v g)
-    (given_has (target_rows p (question_as d u m (Some v) g))) (alone_has p d m u v g)
+    (given_has p (target_rows p (question_as d u m (Some v) g))) (alone_has p d m u v g)
 
 listed-some : (l : Level) (o : Option AllowingRow) → (o ≡ None → l ≡ level.None) → is_at_least level.Listed l ≡ true → is_some o ≡ true
 listed-some l (Some r) has listed = refl

@@ -14,7 +14,9 @@ use Rattle.review_roots.specs.declared.level.Level.TheVariants as level
 use Rattle.review_roots.specs.Asked.{nothing}
 use Rattle.review_roots.specs.Blocks.{Row, block_rows, with_row, with_rows}
 use Rattle.review_roots.specs.Body.Candidates.{both_at, part_at, part_of}
-use Rattle.review_roots.specs.Body.Effects.{free_by, level_by, unasked_by}
+use Rattle.review_grants.specs.declared.marks.Marks.{Marks}
+use Rattle.review_grants.specs.Depends.{joined_marks, unmarked}
+use Rattle.review_roots.specs.Body.Effects.{free_by, level_by, marks_by, unasked_by}
 use Rattle.review_roots.specs.Body.Rows.{by_behind}
 use Rattle.review_roots.specs.Body.Settled.{agree, given_at, settles, settles_at, settles_of}
 use Rattle.review_roots.specs.Ranks.{rank}
@@ -59,8 +61,11 @@ module _ (b : Block) (settled : settles b.effect ≡ true) where
   abbrev Rest : Bool
   Rest = (rank x.listed == rank x.all) && ((rank x.all_but == rank x.all) && Passwords)
 
+  cleared : (x.clears ≡ true) × ((x.allows && ((rank x.none == rank x.all) && Rest)) ≡ true)
+  cleared = and_parts x.clears (x.allows && ((rank x.none == rank x.all) && Rest)) settled
+
   allows : (x.allows ≡ true) × (((rank x.none == rank x.all) && Rest) ≡ true)
-  allows = and_parts x.allows ((rank x.none == rank x.all) && Rest) settled
+  allows = and_parts x.allows ((rank x.none == rank x.all) && Rest) cleared.1
 
   none : ((rank x.none == rank x.all) ≡ true) × (Rest ≡ true)
   none = and_parts (rank x.none == rank x.all) Rest allows.1
@@ -91,10 +96,14 @@ module _ (b : Block) (settled : settles b.effect ≡ true) where
   same-row : (by : Option AllowingRow) → by_behind b by ≡ Some row
   same-row by = ap (λ c. cond c (Some row) by) allows.0
 
-  gives : (a : Given) → record { level = x.all; free = x.free; unasked = x.unasked; by = Some row } ≡ with_rows a (block_rows b)
+  same-marks : (m : Marks) → marks_by x m ≡ unmarked
+  same-marks m = ap (λ c. cond c unmarked (joined_marks m x.marks)) cleared.0
+
+  gives : (a : Given) → record { level = x.all; free = x.free; unasked = x.unasked; by = Some row; marks = unmarked }
+      ≡ with_rows a (block_rows b)
   gives a =
-      block-gives b a x.all x.free x.unasked (Some row) (sym (same-level a.level)) (sym (same-free a.free))
-      (sym (same-unasked a.unasked)) (sym (same-row a.by))
+      block-gives b a x.all x.free x.unasked (Some row) unmarked (sym (same-level a.level)) (sym (same-free a.free))
+      (sym (same-unasked a.unasked)) (sym (same-row a.by)) (sym (same-marks a.marks))
 
   settled-gives : (a c : Given) → with_rows a (block_rows b) ≡ with_rows c (block_rows b)
   settled-gives a c = sym (gives a) ∙ gives c

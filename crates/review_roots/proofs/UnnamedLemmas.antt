@@ -22,10 +22,10 @@ pub unnamed-by :
 unnamed-by p bs g tied none x inside =
     let parts = neither (list_any (λ (w : Signed). names_group g w.atom) (flat_map (block_users p) bs))
     (list_any (λ (w : Signed). fits_by_name g w.atom) (flat_map (block_groups p) bs)) none in
-    let row : Contains (flat_map block_rows bs) (row_of x) =
-    subst (λ rows. Contains rows (row_of x)) (sym tied) (to-map row_of (grants p) x inside) in
-    let b = from-flat block_rows bs (row_of x) row in
-    let s = from-map (block_row b.0) b.0.signs.items (row_of x) b.1.1 in
+    let row : Contains (flat_map block_rows bs) (row_of p x) =
+    subst (λ rows. Contains rows (row_of p x)) (sym tied) (to-map (row_of p) (grants p) x inside) in
+    let b = from-flat block_rows bs (row_of p x) row in
+    let s = from-map (block_row b.0) b.0.signs.items (row_of p x) b.1.1 in
     let absent : IsAbsent p g (block_row b.0 s.0).users (block_row b.0 s.0).runas = (
       none-in (λ (w : Signed). names_group g w.atom) (block_users p) bs b.0 parts.0 b.1.0,
       none-in (λ (w : Signed). fits_by_name g w.atom) (block_groups p) bs b.0 parts.1 b.1.0,

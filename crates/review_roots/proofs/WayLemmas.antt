@@ -1,8 +1,11 @@
 -- The chain of a found state leads to the goal, and its steps ask for the passwords that are named.
-use Rattle.std.proofs.Common.{◌≡◌, ◌∙◌, ◌⊎◌, ℕ, true, List, [], ◌∷◌, ◌++◌, ap, append-nil, append_assoc, inl, inr, refl}
+use Rattle.std.proofs.Common.{◌≡◌, ◌∙◌, ◌⊎◌, ◌||◌, ℕ, Bool, true, false, List, [], ◌∷◌, ◌++◌, ap, append-nil, append_assoc, inl, inr, refl}
 use Rattle.std.proofs.Common.{sym, subst}
 use Rattle.std.proofs.Common.{Some, None}
 use Rattle.std.specs.Prelude.{slice_get}
+use Rattle.review_grants.specs.declared.marks.Marks.{Marks}
+use Rattle.review_grants.specs.Depends.{joined_marks, unmarked}
+use Rattle.review_grants.proofs.NotedLemmas.{same-marks}
 use Rattle.review_roots.specs.declared.given.Given.{Given}
 use Rattle.review_roots.specs.declared.host.HostSteps.{HostSteps}
 use Rattle.review_roots.specs.declared.search.Found.{Found}
@@ -11,9 +14,10 @@ use Rattle.review_roots.specs.declared.way.Password.{Password}
 use Rattle.review_roots.specs.declared.way.Password.TheVariants as password
 use Rattle.review_roots.specs.Chains.{Steps, LeadsAlong}
 use Rattle.review_roots.specs.Body.Found.{AreGiven, AreLinked, IsGiven, IsLinked}
-use Rattle.review_roots.specs.Body.Passing.{HasPassword, HasRow, LeadsWhole}
+use Rattle.review_roots.specs.Body.Passing.{HasMarks, HasPassword, HasRow, LeadsWhole}
 use Rattle.review_roots.specs.Ranks.{is_at_least}
-use Rattle.review_roots.specs.Ways.{first_row, worse, step_password, step_on, password_along}
+use Rattle.review_roots.specs.Ways.{first_row, marks_along, worse, step_password, step_on, password_along}
+use Rattle.review_roots.proofs.EffectLemmas.{joined-none}
 use Rattle.review_roots.proofs.SearchLemmas.{at-least-trans, at-least-itself}
 
 -- the chain so far, behind which any chain from the state reached leads on
@@ -172,3 +176,46 @@ row-all found index at chain a here is (inl none) h f given first =
     ∙ ap (first_row h f.state) (sym none.1)
 row-all found index at chain a here is (inr so_far) h f given first =
     so_far h f given first [] ∙ ap (first_row h f.state) (append-nil chain)
+
+-- ---- Notes
+
+joined-assoc : (a b c : Marks) → joined_marks (joined_marks a b) c ≡ joined_marks a (joined_marks b c)
+joined-assoc a b c =
+    same-marks (joined_marks (joined_marks a b) c) (joined_marks a (joined_marks b c))
+    (or-assoc a.digest b.digest c.digest) (or-assoc a.time b.time c.time) (or-assoc a.chroot b.chroot c.chroot)
+  where
+    or-assoc : (x y z : Bool) → ((x || y) || z) ≡ (x || (y || z))
+    or-assoc true y z = refl
+    or-assoc false y z = refl
+
+-- which notes the steps so far depend on, behind which any chain from the state reached leads on
+abbrev pub MarksSoFar : List Found → ℕ → ℕ → List State → Marks → Type 0
+MarksSoFar found index at chain marks =
+    (h : HostSteps) (f t : Found) → AreGiven h found → slice_get found index ≡ Some f → slice_get found at ≡ Some t →
+    (rest : List State) → marks_along h f.state (chain ++ rest) ≡ joined_marks marks (marks_along h t.state rest)
+
+pub marks-first : (found : List Found) (index : ℕ) → MarksSoFar found index index [] unmarked
+marks-first found index h f t given first now rest =
+    let is : Some f ≡ Some t = sym first ∙ now in
+    let same : f ≡ t = cc in
+    ap (λ (t : Found). marks_along h t.state rest) same
+
+pub marks-more :
+    (found : List Found) (index at next : ℕ) (chain : List State) (marks : Marks) (a b : Found) → slice_get found at ≡ Some a →
+    a.next ≡ Some next → slice_get found next ≡ Some b → MarksSoFar found index at chain marks →
+    MarksSoFar found index next (chain ++ b.state ∷ []) (joined_marks marks a.given.marks)
+marks-more found index at next chain marks a b here is there so_far h f t given first now rest =
+    let e : Some b ≡ Some t = sym there ∙ now in
+    let same : b ≡ t = cc in
+    ap (marks_along h f.state) (append_assoc chain (b.state ∷ []) rest)
+    ∙ so_far h f a given first here (b.state ∷ rest)
+    ∙ sym (joined-assoc marks (step_on h a.state b.state).marks (marks_along h b.state rest))
+    ∙ ap (λ g. joined_marks (joined_marks marks g.marks) (marks_along h b.state rest))
+    (sym (step-gives h found at next a b given here is there))
+    ∙ ap (λ (t : Found). joined_marks (joined_marks marks a.given.marks) (marks_along h t.state rest)) same
+
+pub marks-all :
+    (found : List Found) (index at : ℕ) (chain : List State) (marks : Marks) (a : Found) → slice_get found at ≡ Some a →
+    MarksSoFar found index at chain marks → HasMarks found index chain marks
+marks-all found index at chain marks a here so_far h f given first =
+    sym (ap (marks_along h f.state) (sym (append-nil chain)) ∙ so_far h f a given first here [] ∙ joined-none marks)

@@ -24,9 +24,11 @@ use Rattle.review_roots.specs.Asked.{better, given_alone, given_asked, is_better
 use Rattle.review_roots.specs.Blocks.{AreBlocks, block_row, block_rows, is_for, lists, standing_rows, with_row, with_rows}
 use Rattle.review_roots.specs.Body.Candidates.{raises_for}
 use Rattle.review_roots.specs.Body.Raising.{block_raises, raises}
-use Rattle.review_roots.specs.Levels.{after_signed, lowered, raised}
-use Rattle.review_roots.specs.Passwords.{free_after, nopasswd}
-use Rattle.review_roots.specs.Ranks.{rank, is_at_least}
+use Rattle.review_grants.specs.declared.marks.Marks.{Marks}
+use Rattle.review_grants.specs.Depends.{is_unmarked}
+use Rattle.review_roots.specs.Levels.{after_row, after_signed, lowered, raised}
+use Rattle.review_roots.specs.Passwords.{free_after, free_row, nopasswd}
+use Rattle.review_roots.specs.Ranks.{best, rank, is_at_least}
 use Rattle.review_roots.specs.States.{given_between, level_for}
 use Rattle.review_roots.proofs.GivenLemmas.{blocks_give}
 use Rattle.review_roots.proofs.MemberLemmas.{neither}
@@ -87,6 +89,27 @@ free-weak free false false x t is e = go (nopasswd t)
     go true = is
     go false = refl
 
+-- the same of a row with these notes
+level-weak-row :
+    (marks : Marks) (least l : Level) (n a : Bool) → is_at_least least l ≡ false → (not n && (a || is_at_least least level.Listed)) ≡ false →
+    is_at_least least (after_row marks l n a) ≡ false
+level-weak-row marks least l n a weak e = go (is_unmarked marks)
+  where
+    either : (b : Bool) → is_at_least least (cond b (after_signed l n a) l) ≡ false
+    either true = level-weak least l n a weak e
+    either false = weak
+
+    go : (k : Bool) → is_at_least least (cond k (after_signed l n a) (best l (after_signed l n a))) ≡ false
+    go true = level-weak least l n a weak e
+    go false = either (is_at_least l (after_signed l n a))
+
+free-weak-row : (marks : Marks) (free n a x : Bool) (t : Tags) → free ≡ false → (not n && (a || x)) ≡ false → free_row marks free n t a ≡ false
+free-weak-row marks free n a x t is e = go (is_unmarked marks)
+  where
+    go : (k : Bool) → cond k (free_after free n t a) (free || free_after free n t a) ≡ false
+    go true = free-weak free n a x t is e
+    go false = ap (λ b. b || free_after free n t a) is ∙ free-weak free n a x t is e
+
 weak-signs :
     (least : Level) (b : Block) (ss : List Sign) (a : Given) → IsWeak least a → list_any (raises least) ss ≡ false →
     IsWeak least (with_rows a (map (block_row b) ss))
@@ -94,8 +117,8 @@ weak-signs least b [] a weak e = weak
 weak-signs least b (s ∷ ss) a weak e =
     let both = neither (raises least s) (list_any (raises least) ss) e in
     weak-signs least b ss (with_row a (block_row b s)) (
-      level-weak least a.level s.negated s.all weak.0 both.0,
-      free-weak a.free s.negated s.all (is_at_least least level.Listed) b.tags weak.1 both.0,
+      level-weak-row b.marks least a.level s.negated s.all weak.0 both.0,
+      free-weak-row b.marks a.free s.negated s.all (is_at_least least level.Listed) b.tags weak.1 both.0,
     ) both.1
 
 silent-if : (r l x : Bool) → ((r && l) && x) ≡ false → (l && x) ≡ true → r ≡ false

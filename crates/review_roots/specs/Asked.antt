@@ -13,34 +13,36 @@ use Rattle.sudo_verdict.specs.Grants.{Grant}
 use Rattle.review_roots.specs.declared.level.Level.TheVariants as level
 use Rattle.review_roots.specs.declared.given.Given.{Given}
 use Rattle.review_roots.specs.declared.given.AllowingRow.{AllowingRow}
-use Rattle.review_roots.specs.Levels.{level_of, target_rows}
+use Rattle.review_grants.specs.Depends.{unmarked}
+use Rattle.review_roots.specs.Levels.{denies, level_of, marks_of, target_rows}
 use Rattle.review_roots.specs.Passwords.{is_free, is_unasked}
 use Rattle.review_roots.specs.Ranks.{rank}
 
 -- a row that allows its command
 abbrev pub is_allowing : Grant → Bool
-is_allowing g = not g.negated
+is_allowing g = not (denies g)
 
 abbrev pub allowing_row : Grant → AllowingRow
 allowing_row g = record { place = g.place; tags = g.tags }
 
--- what rows give: their level, whether they are free of passwords, whether a command may go unasked, and the last one that
--- allows, if any
-abbrev pub given_by : List Grant → Given
-given_by gs = record {
-  level = level_of gs;
-  free = is_free gs;
-  unasked = is_unasked gs;
+-- what rows give: their level, whether they are free of passwords, whether a command may go unasked, the last one that allows,
+-- if any, and which notes that depends on
+abbrev pub given_by : Policy → List Grant → Given
+given_by p gs = record {
+  level = level_of p gs;
+  free = is_free p gs;
+  unasked = is_unasked p gs;
   by = option_map allowing_row (last_that is_allowing gs);
+  marks = marks_of p gs;
 }
 
 -- what no row gives
 abbrev pub nothing : Given
-nothing = record { level = level.None; free = false; unasked = false; by = None }
+nothing = record { level = level.None; free = false; unasked = false; by = None; marks = unmarked }
 
 -- what the rows for a target give a user on a host
 abbrev pub given_asked : Policy → KnownRows → Person → Machine → Option Person → Option Group → Given
-given_asked p d u m t g = given_by (target_rows p (question_as d u m t g))
+given_asked p d u m t g = given_by p (target_rows p (question_as d u m t g))
 
 -- the second is free of passwords, or lets a command go unasked, where the first does not
 abbrev pub is_easier : Given → Given → Bool

@@ -1,16 +1,22 @@
 -- How much the rows for a target allow, whatever the command: a fold over their signs and over which of them are ALL.
--- sudoers(5), "User Specification": where several rows match, the last one is used.
-use Rattle.std.specs.Prelude.{◌≡◌, ℕ, Bool, true, false, List, filter, fold}
+-- sudoers(5), "User Specification": where several rows match, the last one is used. What a note stands for may be met or not
+-- met: of both the better level counts, so the level is the most that may be so.
+use Rattle.std.specs.Prelude.{◌≡◌, ℕ, Bool, true, false, ◌||◌, if◌then◌else◌, List, filter, fold}
 use Rattle.sudo_grammar.specs.declared.policy.Policy.{Policy}
 use Rattle.sudo_match.specs.declared.request.Verdict.{Verdict}
 use Rattle.sudo_match.specs.declared.request.Verdict.TheVariants.{Allow}
+use Rattle.sudo_verdict.specs.Last.{last_that}
 use Rattle.sudo_verdict.specs.Values.{is_all}
 use Rattle.sudo_verdict.specs.RunasForms.{runas_allows}
 use Rattle.sudo_verdict.specs.Questions.{Question}
-use Rattle.sudo_verdict.specs.Grants.{Grant}
-use Rattle.sudo_verdict.specs.Verdicts.{verdict_on}
+use Rattle.sudo_verdict.specs.Grants.{Grant, applies, grants}
+use Rattle.sudo_verdict.specs.Verdicts.{verdict_if_any, verdict_on}
+use Rattle.review_grants.specs.declared.marks.Marks.{Marks}
+use Rattle.review_grants.specs.Depends.{is_note_grant, is_unmarked, joined_marks, marks_at, unmarked}
+use Rattle.review_grants.specs.Unnoted.{FailsByNotes}
 use Rattle.review_roots.specs.declared.level.Level.{Level}
 use Rattle.review_roots.specs.declared.level.Level.TheVariants as level
+use Rattle.review_roots.specs.Ranks.{best}
 use Rattle.review_grants.specs.Rows.{rows}
 
 -- after a listed command that is denied
@@ -34,12 +40,33 @@ after_signed l true false = lowered l
 after_signed l false true = level.All
 after_signed l false false = raised l
 
-abbrev pub after_one : Level → Grant → Level
-after_one l g = after_signed l g.negated (is_all g.atom)
+-- after a row of a rule with these notes
+abbrev pub after_row : Marks → Level → Bool → Bool → Level
+after_row marks l negated all =
+    if is_unmarked marks then after_signed l negated all else best l (after_signed l negated all)
+
+-- the grant denies its command, or stands for a note, and so allows none
+abbrev pub denies : Grant → Bool
+denies g = g.negated || is_note_grant g
+
+abbrev pub after_one : Policy → Level → Grant → Level
+after_one p l g = after_row (marks_at p g.place) l (denies g) (is_all g.atom)
 
 -- the level of the rows, from the first on
-abbrev pub level_of : List Grant → Level
-level_of gs = fold after_one level.None gs
+abbrev pub level_of : Policy → List Grant → Level
+level_of p gs = fold (after_one p) level.None gs
+
+-- what the level depends on after a row with these notes: nothing that was before where the row is ALL and has no note
+abbrev pub marks_after : Marks → Marks → Bool → Marks
+marks_after before marks all =
+    if is_unmarked marks then (if all then unmarked else before) else joined_marks before marks
+
+abbrev pub after_marks : Policy → Marks → Grant → Marks
+after_marks p before g = marks_after before (marks_at p g.place) (is_all g.atom)
+
+-- which notes the level of the rows depends on
+abbrev pub marks_of : Policy → List Grant → Marks
+marks_of p gs = fold (after_marks p) unmarked gs
 
 -- the rows of the user on the host whose runas allows the target and the group
 abbrev pub target_rows : Policy → Question → List Grant
@@ -53,12 +80,25 @@ abbrev pub allowed : Verdict → Bool
 allowed (Allow place tags) = true
 allowed _ = false
 
+-- the verdict by the last grant of which a test holds
+abbrev pub verdict_where : Policy → (Grant → Bool) → Verdict
+verdict_where p f = verdict_if_any (last_that f (grants p))
+
+-- where the level is All and depends on no note, every command is allowed, whatever is met of what is noted
 abbrev pub AllAllowsAll : Type 0
 AllAllowsAll =
-    (p : Policy) (q : Question) → level_of (target_rows p q) ≡ level.All →
-    (command arguments : List ℕ) → allowed (verdict_on p (with_command q command arguments)) ≡ true
+    (p : Policy) (q : Question) → level_of p (target_rows p q) ≡ level.All → marks_of p (target_rows p q) ≡ unmarked →
+    (command arguments : List ℕ) (f : Grant → Bool) → FailsByNotes p (with_command q command arguments) f →
+    allowed (verdict_where p f) ≡ true
 
+-- where the level is None, no command is allowed, whatever is met of what is noted
 abbrev pub NoneAllowsNone : Type 0
 NoneAllowsNone =
-    (p : Policy) (q : Question) → level_of (target_rows p q) ≡ level.None →
-    (command arguments : List ℕ) → allowed (verdict_on p (with_command q command arguments)) ≡ false
+    (p : Policy) (q : Question) → level_of p (target_rows p q) ≡ level.None →
+    (command arguments : List ℕ) (f : Grant → Bool) → FailsByNotes p (with_command q command arguments) f →
+    allowed (verdict_where p f) ≡ false
+
+-- the verdict itself is one of those
+abbrev pub VerdictIsWhere : Type 0
+VerdictIsWhere =
+    (p : Policy) (q : Question) → FailsByNotes p q (applies p q) × (verdict_on p q ≡ verdict_where p (applies p q))

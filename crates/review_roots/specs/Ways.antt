@@ -2,6 +2,8 @@
 -- sudo(8), sudoers(5), "Tag_Spec": a password is asked unless NOPASSWD is in force.
 use Rattle.std.specs.Prelude.{◌≡◌, ◌⊎◌, ℕ, true, ◌==◌, if◌then◌else◌, List, [], ◌∷◌, All, Option, None, codes}
 use Rattle.std.specs.List.{Contains}
+use Rattle.review_grants.specs.declared.marks.Marks.{Marks}
+use Rattle.review_grants.specs.Depends.{joined_marks, unmarked}
 use Rattle.review_roots.specs.declared.given.AllowingRow.{AllowingRow}
 use Rattle.review_roots.specs.declared.given.Given.{Given}
 use Rattle.review_roots.specs.declared.host.HostSteps.{HostSteps}
@@ -52,12 +54,18 @@ abbrev pub first_row : HostSteps → State → List State → Option AllowingRow
 first_row h s [] = None
 first_row h s (t ∷ ts) = (step_on h s t).by
 
+-- which notes the steps of a chain from a state depend on
+abbrev pub marks_along : HostSteps → State → List State → Marks
+marks_along h s [] = unmarked
+marks_along h s (t ∷ ts) = joined_marks (step_on h s t).marks (marks_along h t ts)
+
 -- no password is asked for, or perhaps one
 abbrev pub IsUnasked : Password → Type 0
 IsUnasked p = (p ≡ password.None) ⊎ (p ≡ password.Maybe)
 
 -- of the steps that are sought, the chain leads from the state to the target through states, with its level, which no chain
--- betters and which is the least asked for or a better one; the row allows the first step, and the password is the chain's
+-- betters and which is the least asked for or a better one; the row allows the first step, and the password and the notes are
+-- the chain's
 pub record IsChain (h : HostSteps) (q : Sought) (least : Level) (s : State) (w : Way) : Type 0 where
   pub inside : All (Contains (steps_of h q).states) w.chain.items
   pub leads : LeadsAlong (steps_of h q) w.level s w.chain.items
@@ -65,6 +73,7 @@ pub record IsChain (h : HostSteps) (q : Sought) (least : Level) (s : State) (w :
   pub enough : is_at_least least w.level ≡ true
   pub by : w.by ≡ first_row h s w.chain.items
   pub password : w.password ≡ password_along h s.user s w.chain.items
+  pub marks : w.marks ≡ marks_along h s w.chain.items
 
 -- the same of all steps; where the chain may ask for a password, no chain of its level, however long, asks for none; and where it
 -- asks for one whatever the command, no chain of its level has steps that all may go without
@@ -77,3 +86,4 @@ pub record IsWay (h : HostSteps) (target : ℕ) (least : Level) (s : State) (w :
   pub free : (w.password ≡ password.None) ⊎ HasNoPath (free_steps h target) w.level s
   pub unasked : IsUnasked w.password ⊎ HasNoPath (unasked_steps h target) w.level s
   pub password : w.password ≡ password_along h s.user s w.chain.items
+  pub marks : w.marks ≡ marks_along h s w.chain.items

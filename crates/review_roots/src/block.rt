@@ -3,11 +3,12 @@ ghost use Rattle.std.specs.Prelude.{◌≡◌};
 ghost use Rattle.review_roots.specs.Body.Effects.{effect_of};
 
 use crate::effect::Effect;
+use review_grants::Marks;
 use sudo_match::Tags;
 use sudo_policy::{Member, Runas};
 use sudo_text::Place;
 
-/// Whether an atom of a command is negated, and whether it is `ALL`.
+/// Whether an atom of a command allows nothing, since it is negated or stands for a note, and whether it is `ALL`.
 #[derive(Clone, Copy, Debug, PartialEq, Eq)]
 pub(crate) struct Sign {
     pub(crate) negated: bool,
@@ -15,7 +16,7 @@ pub(crate) struct Sign {
 }
 
 /// A command of a section, written out: the place and the users of its rule, the hosts of its section, the runas and the tags
-/// in force, and the signs of its atoms.
+/// in force, the notes of its rule, and the signs of its atoms.
 #[derive(Drop)]
 pub(crate) struct Block<'a> {
     pub(crate) place: Place,
@@ -23,8 +24,9 @@ pub(crate) struct Block<'a> {
     pub(crate) hosts: &'a [Member],
     pub(crate) runas: Option<&'a Runas>,
     pub(crate) tags: Tags,
+    pub(crate) marks: Marks,
     pub(crate) signs: Vec<Sign>,
     // What its rows make of what was given before them.
     pub(crate) effect: Effect,
-    ghost effective: { effect ≡ effect_of tags signs.items },
+    ghost effective: { effect ≡ effect_of marks tags signs.items },
 }

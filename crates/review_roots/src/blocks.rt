@@ -1,5 +1,5 @@
 //! The rows of a policy, in blocks: one for each command of a section.
-ghost use Rattle.std.specs.Prelude.{◌≡◌, ◌++◌, ◌∷◌, [], List, IfOk, OnOk, IsTrue, map, flat_map};
+ghost use Rattle.std.specs.Prelude.{◌≡◌, ◌||◌, ◌++◌, ◌∷◌, [], List, IfOk, OnOk, IsTrue, map, flat_map, is_some};
 ghost use Rattle.std.specs.List.{list_all};
 ghost use Rattle.sudo_grammar.specs.declared.kind.Kind.TheVariants as kind;
 ghost use Rattle.sudo_policy.specs.Resolving.{resolves};
@@ -11,24 +11,30 @@ ghost use Rattle.sudo_verdict.specs.Grants.{entry_grants, section_grants};
 ghost use Rattle.sudo_verdict.specs.Body.Resolved.{body_resolves};
 ghost use Rattle.sudo_grammar.specs.declared.policy.CommandSpec.{CommandSpec as TheSpec};
 ghost use Rattle.sudo_grammar.specs.declared.tag.Tag.{Tag as TheTag};
+ghost use Rattle.review_texts.specs.Notes.{note_in};
+ghost use Rattle.review_grants.specs.Depends.{IsMarked, marks_at};
 ghost use Rattle.review_roots.specs.Blocks.{AreBlocks, block_resolves, block_rows, row_of, sign_of};
 ghost use Rattle.review_roots.specs.Body.Heads.{IsInForce, head_resolves, signed_row};
 
 use crate::block::{Block, Sign};
 use crate::effect::effect_of;
+use review_grants::{Marks, NotedPlaces};
+use review_texts::note_in;
 use std::alloc::{AllocError, Global};
 use std::slice;
 use sudo_match::Tags;
 use sudo_policy::{
-    Atom, Checked, CommandSpec, Entry, EntryBody, Kind, Member, Runas, Section, Tag, write_out,
+    Atom, Checked, CommandSpec, Entry, EntryBody, Kind, Member, Runas, Section, Signed, Tag,
+    write_out,
 };
 use sudo_text::Place;
 use sudo_verdict::tags_before_end;
 
-// The place and the users of a rule, and the hosts of a section of it.
+// The place, the notes and the users of a rule, and the hosts of a section of it.
 #[derive(Clone, Copy)]
 struct Head<'a> {
     place: Place,
+    marks: Marks,
     users: &'a [Member],
     hosts: &'a [Member],
 }
@@ -48,6 +54,13 @@ fn is_all(atom: &Atom) -> bool
         Atom::All => true,
         _ => false,
     }
+}
+
+// Whether the atom allows nothing: it is negated, or stands for a note.
+fn is_without(signed: &Signed) -> bool
+    ensures { result ≡ (signed.now.negated || is_some (note_in signed.now.atom)) }
+{
+    signed.negated || note_in(&signed.atom).is_some()
 }
 
 // Returns the tags with a later one in place of that of its pair.
@@ -81,7 +94,7 @@ fn signs_of(alloc: Global, checked: &Checked, command: &Member) -> Result<Vec<Si
     let mut signs = Vec::new(alloc);
     for signed in &atoms {
         signs.push(Sign {
-            negated: signed.negated,
+            negated: is_without(signed),
             all: is_all(&signed.atom),
         })?;
     }
@@ -117,13 +130,14 @@ fn push_command<'a>(
         → IsTrue (list_all (block_resolves checked.now) blocks.new.items)) }
 {
     let signs = signs_of(alloc, checked, command)?;
-    let effect = effect_of(in_force.tags, &signs);
+    let effect = effect_of(head.marks, in_force.tags, &signs);
     blocks.push(Block {
         place: head.place,
         users: head.users,
         hosts: head.hosts,
         runas: in_force.runas,
         tags: in_force.tags,
+        marks: head.marks,
         signs,
         effect,
     })?;
@@ -140,10 +154,11 @@ fn push_section<'a>(
 ) -> Result<(), AllocError>
     requires users { IsTrue (resolves kind.User checked.now head.users.now) }
     requires hosts { head.hosts.now ≡ section.now.hosts }
+    requires marks { head.marks ≡ marks_at checked.now head.place }
     requires section { IsTrue (section_resolves checked.now section.now) }
     ensures rows { OnOk result (flat_map block_rows blocks.new.items ≡ flat_map block_rows
-        blocks.old.items ++ map row_of (section_grants checked.now head.entry.place
-        head.entry.users.now section.now)) }
+        blocks.old.items ++ map (row_of checked.now) (section_grants checked.now
+        head.entry.place head.entry.users.now section.now)) }
     ensures resolve { OnOk result (IsTrue (list_all (block_resolves checked.now) blocks.old.items)
         → IsTrue (list_all (block_resolves checked.now) blocks.new.items)) }
 {
@@ -163,21 +178,24 @@ fn push_sections<'a>(
     alloc: Global,
     checked: &Checked,
     place: Place,
+    marks: Marks,
     users: &'a [Member],
     sections: &'a [Section],
     blocks: &mut Vec<Block<'a>>,
 ) -> Result<(), AllocError>
+    requires marks { marks ≡ marks_at checked.now place }
     requires users { IsTrue (resolves kind.User checked.now users.now) }
     requires sections { IsTrue (list_all (section_resolves checked.now) sections.now) }
     ensures rows { OnOk result (flat_map block_rows blocks.new.items ≡ flat_map block_rows
-        blocks.old.items ++ map row_of (flat_map (section_grants checked.now place users.now)
-        sections.now)) }
+        blocks.old.items ++ map (row_of checked.now) (flat_map (section_grants checked.now place
+        users.now) sections.now)) }
     ensures resolve { OnOk result (IsTrue (list_all (block_resolves checked.now) blocks.old.items)
         → IsTrue (list_all (block_resolves checked.now) blocks.new.items)) }
 {
     for section in sections {
         let head = Head {
             place,
+            marks,
             users,
             hosts: section.hosts.as_slice(),
         };
@@ -190,12 +208,14 @@ fn push_sections<'a>(
 fn push_entry<'a>(
     alloc: Global,
     checked: &Checked,
+    noted: &NotedPlaces,
     entry: &'a Entry,
     blocks: &mut Vec<Block<'a>>,
 ) -> Result<(), AllocError>
-    requires { IsTrue (body_resolves checked.now entry.now.body) }
+    requires noted { IsMarked checked.now noted.now }
+    requires body { IsTrue (body_resolves checked.now entry.now.body) }
     ensures rows { OnOk result (flat_map block_rows blocks.new.items ≡ flat_map block_rows
-        blocks.old.items ++ map row_of (entry_grants checked.now entry.now)) }
+        blocks.old.items ++ map (row_of checked.now) (entry_grants checked.now entry.now)) }
     ensures resolve { OnOk result (IsTrue (list_all (block_resolves checked.now) blocks.old.items)
         → IsTrue (list_all (block_resolves checked.now) blocks.new.items)) }
 {
@@ -204,6 +224,7 @@ fn push_entry<'a>(
             alloc,
             checked,
             entry.place,
+            noted.marks(entry.place),
             users.as_slice(),
             sections.as_slice(),
             blocks,
@@ -221,9 +242,11 @@ pub(crate) fn blocks_of<'a>(
     ensures resolve { IfOk result (λ blocks. IsTrue (list_all (block_resolves checked.now)
         blocks.items)) }
 {
+    let noted = NotedPlaces::of(alloc, checked)?;
     let mut blocks = Vec::new(alloc);
     for entry in checked.policy().entries.as_slice() {
-        push_entry(alloc, checked, entry, &mut blocks)?;
+        push_entry(alloc, checked, &noted, entry, &mut blocks)?;
     }
+    drop(noted);
     Ok(blocks)
 }

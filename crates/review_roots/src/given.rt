@@ -8,6 +8,7 @@ ghost use Rattle.review_roots.specs.declared.level.Level.TheVariants as level;
 
 use crate::Level;
 use crate::block::Block;
+use review_grants::{Marks, UNMARKED};
 use sudo_match::Tags;
 use sudo_text::Place;
 
@@ -20,7 +21,7 @@ pub struct AllowingRow {
     pub tags: Tags,
 }
 
-/// What rows give, whatever the command.
+/// What rows give, whatever the command, and whatever is met of what is noted: the most that may be so.
 #[derive(Clone, Copy, Debug, PartialEq, Eq)]
 pub struct Given {
     /// The level of what they allow.
@@ -31,6 +32,8 @@ pub struct Given {
     pub unasked: bool,
     /// The last of them that allows, if any.
     pub by: Option<AllowingRow>,
+    /// The notes on which that depends: where there are none, it is so.
+    pub marks: Marks,
 }
 
 /// Which steps count.
@@ -50,6 +53,7 @@ pub(crate) const NOTHING: Given = Given {
     free: false,
     unasked: false,
     by: None,
+    marks: UNMARKED,
 };
 
 impl Given {
@@ -62,6 +66,7 @@ impl Given {
             free: block.effect.is_free_after(self.free),
             unasked: block.effect.is_unasked_after(self.unasked),
             by: self.by_behind(block),
+            marks: block.effect.marks_after(self.marks),
         }
     }
 

@@ -2,31 +2,33 @@
 ghost use Rattle.std.specs.Prelude.{◌≡◌, Some, slice_get};
 ghost use Rattle.sudo_grammar.specs.Tags.{pairs};
 ghost use Rattle.sudo_grammar.specs.declared.tag.TagPair.TheVariants.{Passwd};
-ghost use Rattle.review_roots.specs.Levels.{AllAllowsAll, NoneAllowsNone};
+ghost use Rattle.review_roots.specs.Levels.{AllAllowsAll, NoneAllowsNone, VerdictIsWhere};
 ghost use Rattle.review_roots.specs.Passwords.{AskedAlways, FreeIsAll, FreeIsUnasked, FreeNeedsNoPassword};
 ghost use Rattle.review_roots.specs.Chains.{ChainsArePaths};
 ghost use Rattle.review_roots.specs.KnownGroups.{OtherGroupsChangeNoList};
 
-/// Where the level of the rows for a target is `All`, every command is allowed, with any arguments.
+/// Where the level of the rows for a target is `All` and depends on no note, every command is allowed, with any arguments, whatever
+/// is met of what is noted. The verdict is one of those that this is about.
 pub fn all_allows_all()
-    ensures { AllAllowsAll }
+    ensures allowed { AllAllowsAll }
+    ensures verdict { VerdictIsWhere }
 {}
 
-/// Where the level of the rows for a target is `None`, no command is allowed, with any arguments.
+/// Where the level of the rows for a target is `None`, no command is allowed, with any arguments, whatever is met of what is noted.
 pub fn none_allows_none()
     ensures { NoneAllowsNone }
 {}
 
-/// Where the rows for a target are free of passwords, every command is allowed with the tag NOPASSWD; and their level is
-/// `All`.
+/// Where the rows for a target are free of passwords and depend on no note, every command is allowed with the tag NOPASSWD,
+/// whatever is met of what is noted; and their level is `All`.
 pub fn free_needs_no_password()
     ensures place { slice_get pairs 6 ≡ Some Passwd }
     ensures free { FreeNeedsNoPassword }
     ensures all { FreeIsAll }
 {}
 
-/// Where the rows for a target let no command go unasked, none is allowed with the tag NOPASSWD; and rows that are free of
-/// passwords let commands go unasked.
+/// Where the rows for a target let no command go unasked, none is allowed with the tag NOPASSWD, whatever is met of what is noted;
+/// and rows that are free of passwords let commands go unasked.
 pub fn asked_always()
     ensures asked { AskedAlways }
     ensures free { FreeIsUnasked }

@@ -1,7 +1,9 @@
 //! How much of what can be asked a list of rows allows.
 ghost use Rattle.std.specs.Prelude.{◌≡◌};
-ghost use Rattle.review_roots.specs.Levels.{lowered, raised, after_signed};
+ghost use Rattle.review_roots.specs.Levels.{lowered, raised, after_row, after_signed};
 ghost use Rattle.review_roots.specs.Ranks.{best, rank, is_at_least, least, level_name};
+
+use review_grants::Marks;
 
 /// What the rows that let a user run commands as one target allow, whatever the command.
 #[derive(Clone, Copy, Debug, PartialEq, Eq)]
@@ -82,8 +84,8 @@ impl Level {
         }
     }
 
-    /// Returns the level after a further row: whether it is negated, and whether its command is `ALL`.
-    pub(crate) fn after(self, negated: bool, is_all: bool) -> Level
+    // Returns the level after a further row without notes: whether it is negated, and whether its command is `ALL`.
+    fn after_signed(self, negated: bool, is_all: bool) -> Level
         ensures { result ≡ after_signed self negated is_all }
     {
         match (negated, is_all) {
@@ -91,6 +93,19 @@ impl Level {
             (true, false) => self.lowered(),
             (false, true) => Level::All,
             (false, false) => self.raised(),
+        }
+    }
+
+    /// Returns the level after a further row of a rule with these notes: the better one of what it is where they are met, and where
+    /// they are not.
+    pub(crate) fn after(self, marks: Marks, negated: bool, is_all: bool) -> Level
+        ensures { result ≡ after_row marks self negated is_all }
+    {
+        let after = self.after_signed(negated, is_all);
+        if marks.is_unmarked() {
+            after
+        } else {
+            self.best(after)
         }
     }
 }

@@ -3,7 +3,7 @@ ghost use Rattle.std.specs.Prelude.{◌≡◌, ◌<◌, All, IfOk, Some, length,
 ghost use Rattle.std.specs.List.{Contains};
 ghost use Rattle.review_roots.specs.Sought.{steps_of};
 ghost use Rattle.review_roots.specs.Body.Found.{AreFound, AreGiven, PointBack, found_states};
-ghost use Rattle.review_roots.specs.Body.Passing.{HasPassword, HasRow, LeadsWhole};
+ghost use Rattle.review_roots.specs.Body.Passing.{HasMarks, HasPassword, HasRow, LeadsWhole};
 ghost use Rattle.review_roots.specs.Ways.{IsChain, password_name, step_password, worse};
 ghost use Rattle.review_roots.specs.declared.level.Level.{Level as TheLevel};
 ghost use Rattle.review_roots.specs.declared.search.Found.{Found as TheFound};
@@ -14,6 +14,7 @@ use crate::given::{AllowingRow, Given};
 use crate::host::HostSteps;
 use crate::search::Found;
 use crate::state::State;
+use review_grants::{Marks, UNMARKED};
 use std::alloc::{AllocError, Global};
 
 /// Whose passwords a chain of steps asks for.
@@ -40,6 +41,8 @@ pub struct Way {
     pub by: Option<AllowingRow>,
     /// Whose passwords its steps ask for.
     pub password: Password,
+    /// The notes on which its steps depend: where there are none, it is so; otherwise it is the most that may be so.
+    pub marks: Marks,
 }
 
 impl Password {
@@ -84,14 +87,16 @@ fn step_password(given: Given, user: usize, from: State) -> Password
     }
 }
 
-// The states to which the steps of a chain lead, and whose passwords they ask for.
+// The states to which the steps of a chain lead, whose passwords they ask for, and the notes on which they depend.
 #[derive(Drop)]
 struct Traced {
     chain: Vec<State>,
     password: Password,
+    marks: Marks,
 }
 
-// Returns the states to which the steps of a found state lead, and whose passwords they ask for, in a chain that begins with the user.
+// Returns the states to which the steps of a found state lead, whose passwords they ask for in a chain that begins with the user,
+// and the notes on which they depend.
 fn trace(alloc: Global, found: &[Found], index: usize, user: usize) -> Result<Traced, AllocError>
     requires back { PointBack found.now }
     requires inside { index < length found.now }
@@ -101,9 +106,12 @@ fn trace(alloc: Global, found: &[Found], index: usize, user: usize) -> Result<Tr
     ensures row { IfOk result (λ traced. HasRow found.now index traced.chain.items) }
     ensures password { IfOk result (λ traced. HasPassword found.now user index traced.chain.items
         traced.password) }
+    ensures marks { IfOk result (λ traced. HasMarks found.now index traced.chain.items
+        traced.marks) }
 {
     let mut chain = Vec::new(alloc);
     let mut password = Password::None;
+    let mut marks = UNMARKED;
     let mut at = index;
     while let Some(next) = found[at].next {
         let Found {
@@ -113,10 +121,15 @@ fn trace(alloc: Global, found: &[Found], index: usize, user: usize) -> Result<Tr
             given,
         } = found[at];
         password = password.worse(step_password(given, user, state));
+        marks = marks.joined(given.marks);
         chain.push(found[next].state)?;
         at = next;
     }
-    Ok(Traced { chain, password })
+    Ok(Traced {
+        chain,
+        password,
+        marks,
+    })
 }
 
 /// Returns the chain of a found state. Returns `AllocError` if allocation fails.
@@ -140,11 +153,16 @@ pub(crate) fn way_of(
         next: _,
         given,
     } = found[index];
-    let Traced { chain, password } = trace(alloc, found, index, state.user)?;
+    let Traced {
+        chain,
+        password,
+        marks,
+    } = trace(alloc, found, index, state.user)?;
     Ok(Way {
         level,
         chain,
         by: given.by,
         password,
+        marks,
     })
 }

@@ -1,5 +1,5 @@
 -- The runas and the tags in force at a command, and the rows of one command; only proofs of bodies need these definitions.
-use Rattle.std.specs.Prelude.{◌≡◌, Bool, ◌&&◌, List, option_copied}
+use Rattle.std.specs.Prelude.{◌≡◌, Bool, ◌&&◌, ◌||◌, List, is_some, option_copied}
 use Rattle.sudo_grammar.specs.declared.kind.Kind.TheVariants as kind
 use Rattle.sudo_grammar.specs.declared.kind.Signed.{Signed}
 use Rattle.sudo_grammar.specs.declared.policy.CommandSpec.{CommandSpec}
@@ -7,6 +7,7 @@ use Rattle.sudo_grammar.specs.declared.policy.Policy.{Policy}
 use Rattle.sudo_policy.specs.Resolving.{resolves, runas_resolves}
 use Rattle.sudo_verdict.specs.Values.{is_all}
 use Rattle.sudo_verdict.specs.Tagged.{tags_before, runas_before}
+use Rattle.review_texts.specs.Notes.{note_in}
 use Rattle.review_roots.specs.declared.blocks.Head.{Head}
 use Rattle.review_roots.specs.declared.blocks.InForce.{InForce}
 use Rattle.review_roots.specs.Blocks.{Row}
@@ -23,7 +24,8 @@ signed_row h f w = record {
   hosts = h.hosts.now;
   runas = option_copied f.runas;
   tags = f.tags;
-  negated = w.negated;
+  marks = h.marks;
+  negated = w.negated || is_some (note_in w.atom);
   all = is_all w.atom;
 }
 

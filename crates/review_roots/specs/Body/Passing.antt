@@ -1,12 +1,13 @@
 -- What a chain asks for, as a program finds it along what was found; only proofs of bodies need these definitions.
 use Rattle.std.specs.Prelude.{◌≡◌, ℕ, List, Some, slice_get}
+use Rattle.review_grants.specs.declared.marks.Marks.{Marks}
 use Rattle.review_roots.specs.declared.host.HostSteps.{HostSteps}
 use Rattle.review_roots.specs.declared.search.Found.{Found}
 use Rattle.review_roots.specs.declared.state.State.{State}
 use Rattle.review_roots.specs.declared.way.Password.{Password}
 use Rattle.review_roots.specs.Body.Found.{AreGiven, AreLinked}
 use Rattle.review_roots.specs.Chains.{LeadsAlong, Steps}
-use Rattle.review_roots.specs.Ways.{first_row, password_along}
+use Rattle.review_roots.specs.Ways.{first_row, marks_along, password_along}
 
 -- the chain leads from the found state at the index to the goal
 abbrev pub LeadsWhole : List Found → ℕ → List State → Type 0
@@ -23,3 +24,8 @@ abbrev pub HasPassword : List Found → ℕ → ℕ → List State → Password 
 HasPassword found user index chain password =
     (h : HostSteps) (f : Found) → AreGiven h found → slice_get found index ≡ Some f →
     password ≡ password_along h user f.state chain
+
+-- the notes are those that the steps of the chain depend on
+abbrev pub HasMarks : List Found → ℕ → List State → Marks → Type 0
+HasMarks found index chain marks =
+    (h : HostSteps) (f : Found) → AreGiven h found → slice_get found index ≡ Some f → marks ≡ marks_along h f.state chain

@@ -12,11 +12,11 @@ use Rattle.review_roots.specs.Ranks.{rank}
 abbrev pub agree : Bool → Bool → Bool
 agree a b = if a then b else not b
 
--- one of the rows allows, and what they make of what was given before them is the same for each
+-- one of the rows allows, none has a note, and what they make of what was given before them is the same for each
 abbrev pub settles : Effect → Bool
 settles e =
-    e.allows && ((rank e.none == rank e.all) && ((rank e.listed == rank e.all) && ((rank e.all_but == rank e.all)
-    && (agree e.newly_free e.free && agree e.newly_unasked e.unasked))))
+    e.clears && (e.allows && ((rank e.none == rank e.all) && ((rank e.listed == rank e.all) && ((rank e.all_but == rank e.all)
+    && (agree e.newly_free e.free && agree e.newly_unasked e.unasked)))))
 
 -- there is a block, and its rows settle what is given
 abbrev pub settles_of : Option Block → Bool

@@ -18,7 +18,10 @@ push_entry-requires c =
     let entry = c.entry-item.result in
     let less : at < length p.entries = subst (λ (es : List Entry). at < length es) same c.loop-entry-test.true in
     let is : entry ≡ get_or p.entries at entry = c.entry-item.is ∙ ap (λ (es : List Entry). get_or es at entry) same in
-    all-there (λ (e : Entry). body_resolves p e.body) p.entries at entry less is (bodies_resolve p c.policy.ensures.sound)
+    record {
+      noted = c.in_ok-noted.ensures.marked;
+      body = all-there (λ (e : Entry). body_resolves p e.body) p.entries at entry less is (bodies_resolve p c.policy.ensures.sound);
+    }
 
 pub loop-entry-preserved : goal.loop-entry-preserved
 loop-entry-preserved c =
@@ -30,7 +33,7 @@ loop-entry-preserved c =
     let less : at < length p.entries = subst (λ (es : List Entry). at < length es) same c.loop-entry-test.true in
     let is : entry ≡ get_or p.entries at entry = c.entry-item.is ∙ ap (λ (es : List Entry). get_or es at entry) same in
     record {
-      rows = grants-more (entry_grants p) p.entries at entry []
+      rows = grants-more p (entry_grants p) p.entries at entry []
           (flat_map block_rows c.loop-entry.blocks.items)
           (flat_map block_rows c.push_entry.new.blocks.items) less is c.loop-entry.invariant.rows c.in_ok-push_entry.ensures.rows;
       resolve = c.in_ok-push_entry.ensures.resolve c.loop-entry.invariant.resolve;

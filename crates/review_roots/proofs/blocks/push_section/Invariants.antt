@@ -9,7 +9,7 @@ abbrev pub invariant-loop-spec : goal.invariant-loop-spec
 invariant-loop-spec l = record {
   in_force : IsInForce (take l.spec-index l.section.commands) l.in_force;
   rows : flat_map block_rows l.blocks.items ≡ flat_map block_rows l.initial.blocks.items
-      ++ map row_of (flat_map (place_grants l.checked l.head.place l.head.users.now l.section)
+      ++ map (row_of l.checked) (flat_map (place_grants l.checked l.head.place l.head.users.now l.section)
       (take l.spec-index (enumerate_from 0 l.section.commands)));
   resolve : IsTrue (list_all (block_resolves l.checked) l.initial.blocks.items)
       → IsTrue (list_all (block_resolves l.checked) l.blocks.items);

@@ -8,7 +8,7 @@ pub loop-section-preserved : goal.loop-section-preserved
 loop-section-preserved c =
     let p = c.args.checked.now in
     record {
-      rows = grants-more (section_grants p c.args.place c.args.users.now) c.args.sections.now c.loop-section.section-index
+      rows = grants-more p (section_grants p c.args.place c.args.users.now) c.args.sections.now c.loop-section.section-index
           c.section-item.result (flat_map block_rows c.args.blocks.now.items) (flat_map block_rows c.loop-section.blocks.items)
           (flat_map block_rows c.push_section.new.blocks.items) c.loop-section-test.true c.section-item.is c.loop-section.invariant.rows
           c.in_ok-push_section.ensures.rows;

@@ -7,7 +7,7 @@ use Rattle.review_roots.proofs.blocks.push_sections.Given as goal
 abbrev pub invariant-loop-section : goal.invariant-loop-section
 invariant-loop-section l = record {
   rows : flat_map block_rows l.blocks.items ≡ flat_map block_rows l.initial.blocks.items
-      ++ map row_of (flat_map (section_grants l.checked l.place l.users) (take l.section-index l.sections));
+      ++ map (row_of l.checked) (flat_map (section_grants l.checked l.place l.users) (take l.section-index l.sections));
   resolve : IsTrue (list_all (block_resolves l.checked) l.initial.blocks.items)
       → IsTrue (list_all (block_resolves l.checked) l.blocks.items);
 }

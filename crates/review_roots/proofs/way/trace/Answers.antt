@@ -1,6 +1,7 @@
 use Rattle.std.proofs.Common.{◌<◌, ◌∙◌, ap, arith, length}
 use Rattle.review_roots.specs.Ways.{worse}
-use Rattle.review_roots.proofs.LoopLemmas.{back-at, chain-all, chain-asks, chain-by, chain-more, chain-password, chain-row, chain-within}
+use Rattle.review_roots.proofs.LoopLemmas.{back-at, chain-all, chain-asks, chain-by, chain-marked, chain-marks, chain-more, chain-password}
+use Rattle.review_roots.proofs.LoopLemmas.{chain-row, chain-within}
 use Rattle.review_roots.proofs.way.trace.Goals as goal
 
 pub loop-at-smaller : goal.loop-at-smaller
@@ -18,6 +19,9 @@ loop-at-preserved c =
           c.loop-at.invariant.within;
       row = chain-row c.args.found.now c.args.index c.loop-at.at c.in-Some.next c.loop-at.chain.items c.push.new.self.items _ _
           c.loop-at.invariant.inside inside c.in-Some.is c.in_ok-push.ensures.items c.loop-at.invariant.row;
+      marks = chain-marks c.args.found.now c.args.index c.loop-at.at c.in-Some.next c.loop-at.chain.items
+          c.push.new.self.items c.loop-at.marks _ _ _ _ c.loop-at.invariant.inside inside c.in-Some.is c.in_ok-push.ensures.items
+          c.joined-marks.ensures c.loop-at.invariant.marks;
       asks = chain-asks c.args.found.now c.args.user c.args.index c.loop-at.at c.in-Some.next c.loop-at.chain.items
           c.push.new.self.items c.loop-at.password _ _ _ _ c.loop-at.invariant.inside inside c.in-Some.is c.in_ok-push.ensures.items
           (c.worse-password.ensures ∙ ap (worse c.loop-at.password) c.step_password.ensures) c.loop-at.invariant.asks;
@@ -37,3 +41,8 @@ pub returns-clause-password : goal.returns-clause-password
 returns-clause-password c =
     chain-password c.args.found.now c.args.user c.args.index c.loop-at.at c.loop-at.chain.items c.loop-at.password _
     c.loop-at.invariant.inside c.in_default.is c.loop-at.invariant.asks
+
+pub returns-clause-marks : goal.returns-clause-marks
+returns-clause-marks c =
+    chain-marked c.args.found.now c.args.index c.loop-at.at c.loop-at.chain.items c.loop-at.marks _ c.loop-at.invariant.inside
+    c.loop-at.invariant.marks
