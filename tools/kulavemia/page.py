@@ -285,7 +285,7 @@ class Page:
         dropped = self.uses.dropped if self.uses is not None else Counter[tuple[str, str]]()
         return {
             place: (int(allowed) - dropped[ALLOW, place], int(denied) - dropped[DENY, place])
-            for place, _, allowed, denied in review.rows_of(self.inputs.requests, review.RULES)
+            for place, _, allowed, denied, _ in review.rows_of(self.inputs.requests, review.RULES)
         }
 
     def time_of(self, nanoseconds: int) -> str:

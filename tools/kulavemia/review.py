@@ -31,7 +31,7 @@ HEADERS: Mapping[str, Sequence[str]] = {
     GRANTS: ("place", "users", "hosts", "runas", "sign", "command", "tags", "depends"),
     ROOTS: ("user", "host", "target", "level", "password", "place", "tags", "via", "depends"),
     SUBJECTS: ("place", "kind", "name", "what"),
-    RULES: ("place", "commands", "allowed", "denied"),
+    RULES: ("place", "commands", "allowed", "denied", "depends"),
     COMPARE: (
         "users",
         "hosts",
@@ -67,6 +67,15 @@ class Caution(NamedTuple):
     line: str = ""
 
 
+class Counted(NamedTuple):
+    """The row of a rule behind its place: its commands, the requests that it allowed and denied, and what it depends on."""
+
+    commands: int
+    allowed: int
+    denied: int
+    depends: str
+
+
 class Asked(NamedTuple):
     """The second program, and the policy that it is asked about."""
 
@@ -100,15 +109,15 @@ class Asked(NamedTuple):
 
     def rules(self, sources: Sequence[Source], out: str, workers: int) -> None:
         """Writes how many requests each rule allowed and denied, in runs that the program takes."""
-        counts: dict[str, list[int]] = {}
+        counts: dict[str, Counted] = {}
         for batch in batches(sources):
             named = [f"{source.sender}={source.file}" for source in batch]
             words = [*self._directory(), "--workers", str(workers), "--", self.policy.file, *named]
             with self._printed(RULES, words) as part:
-                for line, (place, *numbers) in read_open(part, self.program, HEADERS[RULES]):
+                for line, (place, *numbers, depends) in read_open(part, self.program, HEADERS[RULES]):
                     commands, allowed, denied = (number_of(self.program, line, number) for number in numbers)
-                    before = counts.get(place, [0, 0, 0])
-                    counts[place] = [commands, before[1] + allowed, before[2] + denied]
+                    before = counts.get(place, Counted(0, 0, 0, ""))
+                    counts[place] = Counted(commands, before.allowed + allowed, before.denied + denied, depends)
         with open_write(out) as file:
             file.write(self.form.head(HEADERS[RULES]))
             for place, found in counts.items():

@@ -17,7 +17,7 @@ from tables import REPORT, Run, Shown, TableCase, files_of, read_table, runs_of
 from test_documents import CODE, lines_of_manual, rows_of, text_of
 
 HEADER = [*"sender,number,user,host,runas_user,runas_group,command,arguments,verdict,place,tags,depends".split(",")]
-COUNTS = "place,commands,allowed,denied".split(",")
+COUNTS = "place,commands,allowed,denied,depends".split(",")
 AUDITED = REPORT.removeprefix("0 ").rstrip(";").split(",")
 CLASSES: dict[str, str] = read_table("cautions")["classes"]
 MARK = re.compile(r"\(`([a-z-]+)`\)$")
@@ -178,7 +178,7 @@ class Reports(Shown):
         header, *rows = rows_of_csv(os.fsdecode(done.stdout))
         self.assertEqual(header, COUNTS)
         counted: Counter[tuple[str, str]] = Counter()
-        for place, _, allowed, denied in rows:
+        for place, _, allowed, denied, _ in rows:
             counted[place, "allow"] += int(allowed)
             counted[place, "deny"] += int(denied)
         answers = (row[HEADER.index("verdict") :] for row in rows_of_csv(report)[1:])

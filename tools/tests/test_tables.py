@@ -98,10 +98,10 @@ class Tables(Case):
 
     def test_counts_of_runs_are_added(self) -> None:
         self.write("r.csv", REQUESTS_HEADER + "close,0,,,,,\n")
-        self.write("rules.out", "place,commands,allowed,denied\np:1,2,3,4\n")
+        self.write("rules.out", "place,commands,allowed,denied,depends\np:1,2,3,4,time\n")
         sources = [Source(f"s{at}", f"s{at}", 1, self.path("r.csv"), None) for at in range(130)]
         self.asked.rules(sources, self.path("rules.csv"), 2)
-        self.assertEqual(self.rows("rules.csv")[1:], ["p:1,2,9,12"])
+        self.assertEqual(self.rows("rules.csv")[1:], ["p:1,2,9,12,time"])
 
 
 if __name__ == "__main__":

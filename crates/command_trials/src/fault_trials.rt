@@ -279,7 +279,7 @@ fn whole(word: &str) -> &'static str {
             "p:1: caution: case: a name has a capital letter: letter case counts here, not for sudo;\
             cautions: 1;"
         }
-        "rules" => "place,commands,allowed,denied;p:1,4,1,0;",
+        "rules" => "place,commands,allowed,denied,depends;p:1,4,1,0,;",
         "expand" => "/bin/ls;/bin/cat;!/bin/su;",
         _ => table_text(word),
     }

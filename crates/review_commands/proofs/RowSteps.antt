@@ -1,5 +1,5 @@
 -- A row of a report from its parts.
-use Rattle.std.proofs.Common.{◌≡◌, ◌∙◌, ℕ, List, [], ◌∷◌, ◌++◌, ap, append_assoc, refl, sym}
+use Rattle.std.proofs.Common.{◌≡◌, ◌∙◌, ℕ, List, [], ◌∷◌, ◌++◌, ap, append-nil, append_assoc, refl, sym}
 use Rattle.csv.specs.Writing.{default_writer, field_text, fields_text, is_blank}
 use Rattle.audit_files.specs.Report.{line}
 
@@ -49,13 +49,47 @@ line-of old one new first second rest begun more =
     gathered : (a b c d : List ℕ) → (a ++ b) ++ (c ++ d) ≡ a ++ ((b ++ c) ++ d)
     gathered a b c d = simp append_assoc
 
+-- three fields that are known by other words
+fields-three : (a b c second third fourth : List ℕ) → a ≡ second → b ≡ third → c ≡ fourth
+    → fields_text default_writer (a ∷ b ∷ c ∷ []) ≡ fields_text default_writer (second ∷ third ∷ fourth ∷ [])
+fields-three a b c second third fourth is_a is_b is_c =
+    ap (λ (t : List ℕ). fields_text default_writer (t ∷ b ∷ c ∷ [])) is_a
+    ∙ ap (λ (t : List ℕ). fields_text default_writer (second ∷ t ∷ c ∷ [])) is_b
+    ∙ ap (λ (t : List ℕ). fields_text default_writer (second ∷ third ∷ t ∷ [])) is_c
+
 -- a record of four fields, of which three are known by other words
-pub line-four : (old one new first a b c second third fourth : List ℕ) → one ≡ old ++ field_text default_writer first
+pub line-four : (old one two new first a b c second third fourth : List ℕ) → one ≡ old ++ field_text default_writer first
     → a ≡ second → b ≡ third → c ≡ fourth
-    → new ≡ one ++ (fields_text default_writer (a ∷ b ∷ c ∷ []) ++ 10 ∷ [])
+    → two ≡ one ++ fields_text default_writer (a ∷ b ∷ c ∷ []) → new ≡ two ++ 10 ∷ []
     → new ≡ old ++ line (first ∷ second ∷ third ∷ fourth ∷ [])
-line-four old one new first a b c second third fourth begun is_a is_b is_c more =
+line-four old one two new first a b c second third fourth begun is_a is_b is_c more end =
+    let three : List ℕ = fields_text default_writer (second ∷ third ∷ fourth ∷ []) in
     line-of old one new first second (third ∷ fourth ∷ []) begun
-    (more ∙ ap (λ (t : List ℕ). one ++ (fields_text default_writer (t ∷ b ∷ c ∷ []) ++ 10 ∷ [])) is_a
-    ∙ ap (λ (t : List ℕ). one ++ (fields_text default_writer (second ∷ t ∷ c ∷ []) ++ 10 ∷ [])) is_b
-    ∙ ap (λ (t : List ℕ). one ++ (fields_text default_writer (second ∷ third ∷ t ∷ []) ++ 10 ∷ [])) is_c)
+    (end ∙ ap (λ (t : List ℕ). t ++ 10 ∷ []) more
+    ∙ ap (λ (t : List ℕ). (one ++ t) ++ 10 ∷ []) (fields-three a b c second third fourth is_a is_b is_c)
+    ∙ append_assoc one three (10 ∷ []))
+
+field-text : (field : List ℕ) → fields_text default_writer (field ∷ []) ≡ 44 ∷ field_text default_writer field
+unfolding fields_text
+field-text field = ap (λ (t : List ℕ). 44 ∷ t) (append-nil (field_text default_writer field))
+
+-- a record of five fields, of which four are known by other words
+pub line-five : (old one two three new first a b c d second third fourth fifth : List ℕ)
+    → one ≡ old ++ field_text default_writer first → a ≡ second → b ≡ third → c ≡ fourth → d ≡ fifth
+    → two ≡ one ++ fields_text default_writer (a ∷ b ∷ c ∷ []) → three ≡ two ++ 44 ∷ field_text default_writer d
+    → new ≡ three ++ 10 ∷ [] → new ≡ old ++ line (first ∷ second ∷ third ∷ fourth ∷ fifth ∷ [])
+line-five old one two three new first a b c d second third fourth fifth begun is_a is_b is_c is_d more last end =
+    let front : List ℕ = fields_text default_writer (second ∷ third ∷ fourth ∷ []) in
+    let back : List ℕ = 44 ∷ field_text default_writer fifth in
+    let all : fields_text default_writer (second ∷ third ∷ fourth ∷ fifth ∷ []) ≡ front ++ back =
+    fields_text-append (second ∷ third ∷ fourth ∷ []) (fifth ∷ []) ∙ ap (λ (t : List ℕ). front ++ t) (field-text fifth) in
+    let so_far : three ≡ (one ++ front) ++ back =
+    last ∙ ap (λ (t : List ℕ). t ++ 44 ∷ field_text default_writer d) more
+    ∙ ap (λ (t : List ℕ). (one ++ t) ++ 44 ∷ field_text default_writer d) (fields-three a b c second third fourth is_a is_b is_c)
+    ∙ ap (λ (t : List ℕ). (one ++ front) ++ 44 ∷ field_text default_writer t) is_d in
+    line-of old one new first second (third ∷ fourth ∷ fifth ∷ []) begun
+    (end ∙ ap (λ (t : List ℕ). t ++ 10 ∷ []) so_far ∙ joined one front back (10 ∷ [])
+    ∙ ap (λ (t : List ℕ). one ++ (t ++ 10 ∷ [])) (sym all))
+  where
+    joined : (a b c d : List ℕ) → ((a ++ b) ++ c) ++ d ≡ a ++ ((b ++ c) ++ d)
+    joined a b c d = simp append_assoc

@@ -45,7 +45,7 @@ pub record IsCautioned (held : Holdings) (path : List ℕ) (links : List Link) (
 -- the text of the report of an audit under a policy, in each of its forms
 abbrev pub text_in : Form → Policy → Report → List ℕ
 text_in forms.Requests policy report = report_text policy report
-text_in forms.Rules policy report = rules_text policy.files (rule_counts policy report)
+text_in forms.Rules policy report = rules_text policy (rule_counts policy report)
 
 -- the output of `report` and of `rules`, with status 0: the text of the report of an audit, and the line of the cautions on
 -- its policy

@@ -29,8 +29,7 @@ use std::sync::Wait;
 use std::thread::Threads;
 
 // Answers the requests of the files that the words `NAME=PATH` name, under a policy, and returns the exit status.
-// `threads` is the runtime, if it can start threads. A report notes beside each answer what it
-// depends on; the table of rules has no column for that, so it refuses digests, times and roots.
+// `threads` is the runtime, if it can start threads.
 fn run_report<T: Threads + Wait + Sync>(
     rt: &HostRuntime,
     threads: &T,
@@ -44,8 +43,7 @@ fn run_report<T: Threads + Wait + Sync>(
     let alloc = rt.alloc();
     let mut out = Device::new(rt.stdout());
     let mut err = Device::new(rt.stderr());
-    let noted = form == Form::Requests;
-    let mut files = match policy_files(rt, paths.policy, noted) {
+    let mut files = match policy_files(rt, paths.policy, true) {
         Ok(files) => files,
         Err(refused) => return report_explained(alloc, PROGRAM, refused, &mut err),
     };

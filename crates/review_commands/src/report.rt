@@ -55,14 +55,12 @@ fn text_of(
 ) -> Result<Vec<u8>, AllocError>
     ensures { IfOk result (λ text. text.items ≡ text_in form policy.now report.now) }
 {
+    let noted = NotedPlaces::of(alloc, policy)?;
     match form {
-        Form::Requests => {
-            let noted = NotedPlaces::of(alloc, policy)?;
-            report_text(alloc, policy.policy(), &noted, report)
-        }
+        Form::Requests => report_text(alloc, policy.policy(), &noted, report),
         Form::Rules => {
-            let files = policy.policy().files.as_slice();
-            rules_text(alloc, files, &rule_counts(alloc, policy, report)?)
+            let rows = rule_counts(alloc, policy, report)?;
+            rules_text(alloc, policy.policy(), &noted, &rows)
         }
     }
 }

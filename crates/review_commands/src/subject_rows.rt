@@ -3,13 +3,16 @@ ghost use Rattle.std.specs.Prelude.{◌≡◌, ◌++◌, ◌∷◌, [], IfOk, On
 ghost use Rattle.csv.specs.Writing.{default_writer, field_text, fields_text};
 ghost use Rattle.audit_files.specs.Places.{place_text};
 ghost use Rattle.audit_files.specs.Report.{line};
+ghost use Rattle.review_grants.specs.Depends.{IsNoted};
 ghost use Rattle.review_commands.specs.SubjectRows.{rule_fields, rules_header, rules_text as rules_text_of};
 ghost use Rattle.review_commands.specs.SubjectRows.{subject_fields, subjects_header, subjects_text as subjects_text_of};
 
 use audit_files::{push_field, push_next_field, push_place};
 use itoa::Buffer;
+use review_grants::NotedPlaces;
 use review_subjects::{RuleCount, Subject};
 use std::alloc::{AllocError, Global};
+use sudo_policy::Policy;
 use sudo_text::{Place, Seq};
 
 // Appends the first field of a record: a place.
@@ -27,7 +30,7 @@ fn push_first(
     push_field(text, &own)
 }
 
-// Appends three further fields and the end of the record.
+// Appends three further fields.
 #[tactic(auto, unfolding(csv::specs::Writing::fields_text))]
 fn push_three(
     text: &mut Vec<u8>,
@@ -36,13 +39,11 @@ fn push_three(
     fourth: &[u8],
 ) -> Result<(), AllocError>
     ensures { OnOk result (text.new.items ≡ text.old.items
-        ++ (fields_text default_writer (second.now ∷ third.now ∷ fourth.now ∷ []) ++ 10 ∷ [])) }
+        ++ fields_text default_writer (second.now ∷ third.now ∷ fourth.now ∷ [])) }
 {
     push_next_field(text, second)?;
     push_next_field(text, third)?;
-    push_next_field(text, fourth)?;
-    text.push(b'\n')?;
-    Ok(())
+    push_next_field(text, fourth)
 }
 
 // Appends the record of a subject.
@@ -61,29 +62,36 @@ fn push_subject(
         subject.kind.name(),
         subject.name.as_slice(),
         subject.fault.name(),
-    )
+    )?;
+    text.push(b'\n')?;
+    Ok(())
 }
 
-// Appends the record of a rule.
+// Appends the record of a rule of a policy, whose notes these are.
 fn push_rule(
     alloc: Global,
     text: &mut Vec<u8>,
-    files: &[Seq<u8>],
+    policy: &Policy,
+    noted: &NotedPlaces,
     row: &RuleCount,
 ) -> Result<(), AllocError>
+    requires { IsNoted policy.now noted.now }
     ensures { OnOk result (text.new.items
-        ≡ text.old.items ++ line (rule_fields files.now row.now)) }
+        ≡ text.old.items ++ line (rule_fields policy.now row.now)) }
 {
     let mut commands = Buffer::new();
     let mut allowed = Buffer::new();
     let mut denied = Buffer::new();
-    push_first(alloc, text, files, row.place)?;
+    push_first(alloc, text, policy.files.as_slice(), row.place)?;
     push_three(
         text,
         commands.format(row.commands).as_bytes(),
         allowed.format(row.allowed).as_bytes(),
         denied.format(row.denied).as_bytes(),
-    )
+    )?;
+    push_next_field(text, noted.depends(row.place))?;
+    text.push(b'\n')?;
+    Ok(())
 }
 
 #[tactic(auto, unfolding(csv::specs::Writing::fields_text, csv::specs::Writing::is_blank))]
@@ -97,7 +105,7 @@ fn push_subjects_header(text: &mut Vec<u8>) -> Result<(), AllocError>
 fn push_rules_header(text: &mut Vec<u8>) -> Result<(), AllocError>
     ensures { OnOk result (text.new.items ≡ text.old.items ++ line rules_header) }
 {
-    text.extend_from_slice(b"place,commands,allowed,denied\n")
+    text.extend_from_slice(b"place,commands,allowed,denied,depends\n")
 }
 
 /// Returns subjects as CSV: the header `place,kind,name,what`, then a record for each, in their order, with the place as
@@ -117,19 +125,22 @@ pub(crate) fn subjects_text(
     Ok(text)
 }
 
-/// Returns counts of rules as CSV: the header `place,commands,allowed,denied`, then a record for each, in their order, with the
-/// place as `PATH:LINE`. Returns `AllocError` if allocation failed.
+/// Returns counts of the rules of a policy, whose notes these are, as CSV: the header `place,commands,allowed,denied,depends`,
+/// then a record for each, in their order, with the place as `PATH:LINE`. `depends` names what the grants at the place depend
+/// on. Returns `AllocError` if allocation failed.
 pub(crate) fn rules_text(
     alloc: Global,
-    files: &[Seq<u8>],
+    policy: &Policy,
+    noted: &NotedPlaces,
     rows: &[RuleCount],
 ) -> Result<Vec<u8>, AllocError>
-    ensures { IfOk result (λ text. text.items ≡ rules_text_of files.now rows.now) }
+    requires { IsNoted policy.now noted.now }
+    ensures { IfOk result (λ text. text.items ≡ rules_text_of policy.now rows.now) }
 {
     let mut text = Vec::new(alloc);
     push_rules_header(&mut text)?;
     for row in rows {
-        push_rule(alloc, &mut text, files, row)?;
+        push_rule(alloc, &mut text, policy, noted, row)?;
     }
     Ok(text)
 }

@@ -9,7 +9,8 @@ use Rattle.sudo_text.specs.declared.line.Place.{Place}
 use Rattle.sudo_grammar.specs.declared.policy.Policy.{Policy}
 use Rattle.sudo_match.specs.declared.request.Verdict.{Verdict}
 use Rattle.sudo_match.specs.declared.request.Verdict.TheVariants.{Allow, Deny, NoMatch, Unknown}
-use Rattle.review_subjects.specs.Counts.{same_place, firsts, allows_at, denies_at, rule_count, rule_places, verdicts}
+use Rattle.review_grants.specs.Depends.{same_place}
+use Rattle.review_subjects.specs.Counts.{firsts, allows_at, denies_at, rule_count, rule_places, verdicts}
 use Rattle.review_subjects.proofs.EqualPlaces.{place_is, place_swap}
 use Rattle.review_subjects.specs.Counts.{is_decided, is_of_rule, decided_at_row, CountsAddUp}
 

@@ -1,6 +1,9 @@
 -- Worked examples of the counts of rules, each by computation.
 use Rattle.std.proofs.Common.{◌≡◌, ℕ, List, [], ◌∷◌, map, None, refl}
 use Rattle.std.specs.Prelude.{codes}
+use Rattle.sudo_text.specs.Pieces.{plain}
+use Rattle.sudo_grammar.specs.declared.kind.Atom.TheVariants as atoms
+use Rattle.sudo_grammar.specs.declared.policy.CommandSpec.{CommandSpec}
 use Rattle.sudo_grammar.specs.Tags.{pairs}
 use Rattle.sudo_match.specs.declared.request.Tags.{Tags}
 use Rattle.sudo_match.specs.declared.request.Verdict.{Verdict}
@@ -13,7 +16,7 @@ use Rattle.audit_collect.specs.declared.arrival.Answer.{Answer}
 use Rattle.audit_collect.specs.declared.report.Report.{Report}
 use Rattle.review_subjects.specs.declared.rules.RuleCount.{RuleCount}
 use Rattle.review_subjects.specs.Counts.{rule_counts}
-use Rattle.review_subjects.proofs.SubjectVectors.{alice_runs, command, line, policy}
+use Rattle.review_subjects.proofs.SubjectVectors.{alice_runs, command, line, one, policy}
 
 abbrev no_tags : Tags
 no_tags = record { choices = map (λ q. None) pairs }
@@ -61,3 +64,15 @@ merged :
     ≡ row 1 3 1 0 ∷ row 2 1 0 0 ∷ []
 unfolding reading_within written_form tags_named tags_before tags_at runas_before runas_at place_grants section_grants grants
 merged = refl
+
+-- the command that stands for a digest
+abbrev digest : CommandSpec
+digest = record { runas = None; tags = []; command = one (atoms.Command (map plain (codes "/d[z-a]")) None) }
+
+-- a rule whose second command has a digest, and one whose only command stands for it
+noted :
+    rule_counts (policy (alice_runs 1 (command None ∷ digest ∷ command None ∷ []) ∷ alice_runs 2 (digest ∷ []) ∷ []) refl refl)
+    (report (allowed 1 ∷ []) [])
+    ≡ row 1 2 1 0 ∷ row 2 0 0 0 ∷ []
+unfolding reading_within written_form tags_named tags_before tags_at runas_before runas_at place_grants section_grants grants
+noted = refl

@@ -3,8 +3,7 @@ use Rattle.std.proofs.Common.{◌≡◌, ℕ, ◌+◌, Bool, true, false, cond, 
 use Rattle.std.specs.Prelude.{unwrap_or}
 use Rattle.std.proofs.lemmas.Bool.{and_parts, and_from, eq-eqb, eqb-true}
 use Rattle.sudo_text.specs.declared.line.Place.{Place}
-use Rattle.review_subjects.specs.Body.Places.{key_of}
-use Rattle.review_subjects.specs.Counts.{same_place}
+use Rattle.review_grants.specs.Depends.{key_of, same_place}
 
 pub place_is : (a b : Place) → same_place a b ≡ true → a ≡ b
 place_is a b h =

@@ -51,7 +51,7 @@ known = record {
 abbrev with_bangs : ℕ → Atom → Member
 with_bangs n a = record { bangs = n; token = record { kind = token.Mark Bang; start = 0; «end» = 0 }; atom = a }
 
-abbrev one : Atom → Member
+abbrev pub one : Atom → Member
 one a = with_bangs 0 a
 
 abbrev named : List ℕ → Member

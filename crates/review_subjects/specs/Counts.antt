@@ -1,5 +1,5 @@
 -- How many answers each rule decided. sudoers(5), "User Specification": the last match decides.
-use Rattle.std.specs.Prelude.{◌≡◌, ℕ, ◌+◌, Bool, true, false, ◌&&◌, ◌==◌, if◌then◌else◌, IsTrue, List, [], ◌∷◌, ◌++◌}
+use Rattle.std.specs.Prelude.{◌≡◌, ℕ, ◌+◌, Bool, true, false, ◌&&◌, not, if◌then◌else◌, IsTrue, List, [], ◌∷◌, ◌++◌}
 use Rattle.std.specs.Prelude.{map, flat_map, count_by, sum}
 use Rattle.std.specs.List.{list_any, list_all}
 use Rattle.sudo_text.specs.declared.line.Place.{Place}
@@ -13,11 +13,8 @@ use Rattle.sudo_verdict.specs.Grants.{Grant, grants}
 use Rattle.audit_collect.specs.declared.arrival.Answer.{Answer}
 use Rattle.audit_collect.specs.declared.report.Report.{Report}
 use Rattle.audit_collect.specs.declared.report.SenderReport.{SenderReport}
+use Rattle.review_grants.specs.Depends.{is_note_grant, same_place}
 use Rattle.review_subjects.specs.declared.rules.RuleCount.{RuleCount}
-
--- the same line of the same file
-abbrev pub same_place : Place → Place → Bool
-same_place a b = (a.file == b.file) && (a.line == b.line)
 
 -- the place of an entry, if it is a rule
 abbrev pub rule_place : Place → EntryBody → List Place
@@ -51,15 +48,15 @@ abbrev pub denies_at : Place → Verdict → Bool
 denies_at place (Deny at) = same_place place at
 denies_at place _ = false
 
--- the grant is one of the rules at the place
-abbrev pub grant_at : Place → Grant → Bool
-grant_at place g = same_place place g.place
+-- the grant is a command of the rules at the place: it stands for no note
+abbrev pub command_at : Place → Grant → Bool
+command_at place g = same_place place g.place && not (is_note_grant g)
 
--- the row of the rules at a place: their written-out commands, and the answers that they allowed and denied
+-- the row of the rules at a place: their written-out commands but the notes, and the answers that they allowed and denied
 abbrev pub rule_count : Policy → List Verdict → Place → RuleCount
 rule_count p vs place = record {
   place = place;
-  commands = count_by (grant_at place) (grants p);
+  commands = count_by (command_at place) (grants p);
   allowed = count_by (allows_at place) vs;
   denied = count_by (denies_at place) vs;
 }

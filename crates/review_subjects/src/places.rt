@@ -3,7 +3,7 @@ ghost use Rattle.std.specs.Prelude.{◌≡◌, ◌||◌, ◌+◌, ◌<◌, ◌^�
 ghost use Rattle.std.specs.HashMap.{get};
 ghost use Rattle.std.specs.HashSet.{contains};
 ghost use Rattle.sudo_text.specs.declared.line.Place.{Place as ThePlace};
-ghost use Rattle.review_subjects.specs.Body.Places.{same_key, key_of};
+ghost use Rattle.review_grants.specs.Depends.{key_of, same_key, same_place};
 ghost use Rattle.review_subjects.specs.Counts as spec;
 
 use std::alloc::{AllocError, Global};
@@ -14,7 +14,7 @@ use sudo_text::Place;
 fn add_one(counts: &mut HashMap<(u32, u32), u64>, place: Place) -> Result<(), AllocError>
     requires { unwrap_or (get same_key counts.old (key_of place)) 0 < 2 ^ 63 }
     ensures { OnOk result ((q : ThePlace) → unwrap_or (get same_key counts.new (key_of q)) 0
-        ≡ unwrap_or (get same_key counts.old (key_of q)) 0 + cond (spec.same_place q place) 1 0) }
+        ≡ unwrap_or (get same_key counts.old (key_of q)) 0 + cond (same_place q place) 1 0) }
 {
     let count = count_at(counts, place);
     counts.insert((place.file, place.line), count + 1)?;
@@ -24,7 +24,7 @@ fn add_one(counts: &mut HashMap<(u32, u32), u64>, place: Place) -> Result<(), Al
 /// Counts how often each place occurs. Returns `AllocError` if allocation fails.
 pub(crate) fn tally(alloc: Global, places: &[Place]) -> Result<HashMap<(u32, u32), u64>, AllocError>
     ensures { IfOk result (λ m. (q : ThePlace) → unwrap_or (get same_key m (key_of q)) 0
-        ≡ count_by (spec.same_place q) places.now) }
+        ≡ count_by (same_place q) places.now) }
 {
     let mut counts = HashMap::new(alloc);
     for place in places {
@@ -37,7 +37,7 @@ pub(crate) fn tally(alloc: Global, places: &[Place]) -> Result<HashMap<(u32, u32
 fn add(seen: &mut HashSet<(u32, u32)>, place: Place) -> Result<bool, AllocError>
     ensures added { IfOk result (λ added. added ≡ not (contains same_key seen.old (key_of place))) }
     ensures seen { OnOk result ((q : ThePlace) → contains same_key seen.new (key_of q)
-        ≡ (contains same_key seen.old (key_of q) || spec.same_place q place)) }
+        ≡ (contains same_key seen.old (key_of q) || same_place q place)) }
 {
     Ok(seen.insert((place.file, place.line))?)
 }

@@ -10,13 +10,15 @@ ghost use Rattle.review_subjects.specs.Subjects.{entry_resolves};
 use crate::places::{count_at, distinct, tally};
 use crate::written::written;
 use audit_collect::{Report, SenderReport};
+use review_texts::note_in;
 use std::alloc::{AllocError, Global};
 use std::collections::HashMap;
 use sudo_match::Verdict;
 use sudo_policy::{Checked, CommandSpec, Entry, EntryBody, Kind, Section, Signed};
 use sudo_text::Place;
 
-/// The row of a rule: its place, the number of its commands, written out, and how many answers it allowed and denied.
+/// The row of a rule: its place, the number of its commands, written out and without notes, and how many answers it allowed and
+/// denied.
 #[derive(Clone, Copy, Debug, PartialEq, Eq)]
 pub struct RuleCount {
     pub place: Place,
@@ -51,18 +53,29 @@ fn rule_places(alloc: Global, entries: &[Entry]) -> Result<Vec<Place>, AllocErro
     Ok(found)
 }
 
-// Appends a place for each of these atoms.
-fn push_places(place: Place, atoms: &[Signed], found: &mut Vec<Place>) -> Result<(), AllocError>
+// Appends a place for an atom, unless it stands for a note.
+fn push_place(place: Place, atom: &Signed, found: &mut Vec<Place>) -> Result<(), AllocError>
     ensures { OnOk result (found.new.items
-        ≡ found.old.items ++ listed.atom_places place atoms.now) }
+        ≡ found.old.items ++ listed.atom_place place atom.now) }
 {
-    for _atom in atoms {
+    if note_in(&atom.atom).is_none() {
         found.push(place)?;
     }
     Ok(())
 }
 
-// Appends a place for each atom of a command that is written out.
+// Appends a place for each of these atoms but the notes.
+fn push_places(place: Place, atoms: &[Signed], found: &mut Vec<Place>) -> Result<(), AllocError>
+    ensures { OnOk result (found.new.items
+        ≡ found.old.items ++ listed.atom_places place atoms.now) }
+{
+    for atom in atoms {
+        push_place(place, atom, found)?;
+    }
+    Ok(())
+}
+
+// Appends a place for each atom but the notes of a command that is written out.
 fn push_command(
     alloc: Global,
     checked: &Checked,
@@ -79,7 +92,7 @@ fn push_command(
     push_places(place, atoms.as_slice(), found)
 }
 
-// Appends a place for each written-out command of a section.
+// Appends a place for each written-out command of a section but the notes.
 fn push_commands(
     alloc: Global,
     checked: &Checked,
@@ -97,7 +110,7 @@ fn push_commands(
     Ok(())
 }
 
-// Appends a place for each written-out command of sections.
+// Appends a place for each written-out command of sections but the notes.
 fn push_sections(
     alloc: Global,
     checked: &Checked,
@@ -115,7 +128,7 @@ fn push_sections(
     Ok(())
 }
 
-// Appends a place for each written-out command of an entry.
+// Appends a place for each written-out command of an entry but the notes.
 fn push_granted(
     alloc: Global,
     checked: &Checked,
@@ -134,7 +147,7 @@ fn push_granted(
     }
 }
 
-// Returns a place for each written-out command of entries.
+// Returns a place for each written-out command of entries but the notes.
 fn granted_places(
     alloc: Global,
     checked: &Checked,
@@ -248,7 +261,7 @@ fn rows(alloc: Global, tallies: &Tallies, places: &[Place]) -> Result<Vec<RuleCo
 }
 
 /// Returns a row for each rule of a policy, in the policy's order: its place, the number of its commands with all aliases
-/// written out, and how many answers of the report it allowed and denied. Rules with one place have one row.
+/// written out and without notes, and how many answers of the report it allowed and denied. Rules with one place have one row.
 ///
 /// The time is about linear in the policy, written out, and the report, on average. Returns `AllocError` only if allocation
 /// fails.

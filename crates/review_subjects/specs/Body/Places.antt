@@ -1,5 +1,5 @@
--- Places of grants and of verdicts, as lists; keys of places. Only proofs of bodies use these.
-use Rattle.std.specs.Prelude.{ℕ, Bool, ◌&&◌, ◌==◌, List, [], ◌∷◌, map, flat_map, unwrap_or}
+-- Places of commands and of verdicts, as lists. Only proofs of bodies use these.
+use Rattle.std.specs.Prelude.{List, [], ◌∷◌, flat_map, if◌then◌else◌, is_some, unwrap_or}
 use Rattle.std.specs.HashMap.{get}
 use Rattle.sudo_text.specs.declared.line.Place.{Place}
 use Rattle.sudo_grammar.specs.declared.kind.Kind.TheVariants as kinds
@@ -13,21 +13,20 @@ use Rattle.sudo_grammar.specs.declared.policy.Policy.{Policy}
 use Rattle.sudo_match.specs.declared.request.Verdict.{Verdict}
 use Rattle.sudo_match.specs.declared.request.Verdict.TheVariants.{Allow, Deny}
 use Rattle.sudo_policy.specs.Written.{written_form}
+use Rattle.review_texts.specs.Notes.{note_in}
+use Rattle.review_grants.specs.Depends.{key_of, same_key}
 use Rattle.review_subjects.specs.declared.rules.RuleCount.{RuleCount}
 use Rattle.review_subjects.specs.declared.rules.Tallies.{Tallies}
 
--- a place as the key of a map
-abbrev pub key_of : Place → ℕ × ℕ
-key_of place = (place.file, place.line)
+-- the place of an atom, unless it stands for a note
+abbrev pub atom_place : Place → Signed → List Place
+atom_place place s = if is_some (note_in s.atom) then [] else place ∷ []
 
-abbrev pub same_key : ℕ × ℕ → ℕ × ℕ → Bool
-same_key a b = (a.0 == b.0) && (a.1 == b.1)
-
--- a place for each atom
+-- a place for each atom but the notes
 abbrev pub atom_places : Place → List Signed → List Place
-atom_places place atoms = map (λ (s : Signed). place) atoms
+atom_places place atoms = flat_map (atom_place place) atoms
 
--- a place for each written-out atom of a command
+-- a place for each written-out atom of a command but the notes
 abbrev pub command_places : Policy → Place → CommandSpec → List Place
 command_places p place c = atom_places place (written_form kinds.Cmnd p (c.command ∷ []))
 
@@ -38,7 +37,7 @@ abbrev pub body_places : Policy → Place → EntryBody → List Place
 body_places p place (Rule users sections) = flat_map (section_places p place) sections
 body_places p place _ = []
 
--- the place of each grant of a policy
+-- the place of each grant of a policy but the notes
 abbrev pub granted_places : Policy → List Entry → List Place
 granted_places p es = flat_map (λ (e : Entry). body_places p e.place e.body) es
 

@@ -5,4 +5,4 @@ use Rattle.review_commands.proofs.subject_rows.rules_text.Given as goal
 
 -- the header and the records so far were written
 abbrev pub invariant-loop-row : goal.invariant-loop-row
-invariant-loop-row l = l.text.items ≡ line rules_header ++ flat_map (λ s. line (rule_fields l.files s)) (take l.row-index l.rows)
+invariant-loop-row l = l.text.items ≡ line rules_header ++ flat_map (λ s. line (rule_fields l.policy s)) (take l.row-index l.rows)

@@ -1,6 +1,6 @@
 use Rattle.std.proofs.Common.{◌∙◌}
 use Rattle.std.specs.HashSet.{contains}
-use Rattle.review_subjects.specs.Body.Places.{key_of, same_key}
+use Rattle.review_grants.specs.Depends.{key_of, same_key}
 use Rattle.review_subjects.proofs.EqualPlaces.{one_added}
 use Rattle.review_subjects.proofs.places.add.Goals as goal
 

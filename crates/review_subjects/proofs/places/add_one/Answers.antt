@@ -1,7 +1,6 @@
 use Rattle.std.proofs.Common.{refl}
 use Rattle.std.specs.HashMap.{get}
-use Rattle.review_subjects.specs.Body.Places.{key_of, same_key}
-use Rattle.review_subjects.specs.Counts.{same_place}
+use Rattle.review_grants.specs.Depends.{key_of, same_key, same_place}
 use Rattle.review_subjects.proofs.EqualPlaces.{one_more}
 use Rattle.review_subjects.proofs.places.add_one.Goals as goal
 

@@ -2,8 +2,8 @@ use Rattle.std.proofs.Common.{◌≡◌, ◌++◌, [], take, drop}
 use Rattle.std.specs.List.{list_any}
 use Rattle.std.specs.HashSet.{contains}
 use Rattle.sudo_text.specs.declared.line.Place.{Place}
-use Rattle.review_subjects.specs.Body.Places.{key_of, same_key}
-use Rattle.review_subjects.specs.Counts.{same_place, firsts}
+use Rattle.review_grants.specs.Depends.{key_of, same_key, same_place}
+use Rattle.review_subjects.specs.Counts.{firsts}
 use Rattle.review_subjects.proofs.places.distinct.Given as goal
 
 abbrev pub invariant-loop-place : goal.invariant-loop-place

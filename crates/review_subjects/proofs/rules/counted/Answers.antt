@@ -2,7 +2,8 @@ use Rattle.std.proofs.Common.{◌≡◌, ◌∙◌, ◌++◌, ap, List, count_by
 use Rattle.sudo_grammar.specs.declared.policy.Policy.{Policy}
 use Rattle.sudo_text.specs.declared.line.Place.{Place}
 use Rattle.audit_collect.specs.declared.report.SenderReport.{SenderReport}
-use Rattle.review_subjects.specs.Counts.{same_place, sender_verdicts, verdicts}
+use Rattle.review_grants.specs.Depends.{same_place}
+use Rattle.review_subjects.specs.Counts.{sender_verdicts, verdicts}
 use Rattle.review_subjects.specs.Body.Places.{granted_places, allowed_place, denied_place}
 use Rattle.review_subjects.proofs.PlaceSteps.{granted_counts, allowed_counts, denied_counts, row_is}
 use Rattle.review_subjects.proofs.Resolving.{entries_resolve}
