@@ -2,7 +2,7 @@
 
 import contextlib
 from collections import Counter
-from collections.abc import Iterator, Sequence
+from collections.abc import Iterator, Mapping, Sequence
 from typing import IO, NamedTuple
 
 from kulavemia import outputs
@@ -12,7 +12,9 @@ from kulavemia.requests import HEADER, Source
 from kulavemia.rows import as_text
 from kulavemia.shown import Form
 
-CHANGES = ("gained", "gained and lost", "lost", "other")
+# It is not settled whether there is a change.
+MAY = "may"
+CHANGES = ("gained", "gained and lost", "lost", "other", MAY)
 GAINS = ("gained", "gained and lost")
 CHANGE_HEADER = (
     "change",
@@ -51,8 +53,10 @@ def _freedoms(tags: str) -> frozenset[str]:
 def kind_of(old: Verdict, new: Verdict) -> str | None:
     """Returns which change there is, or `None` if verdict and tags are the same.
 
-    An answer that depends may be to allow where it comes, and to deny where it was.
+    An answer that depends may be to allow where it comes, and to deny where it was; where it was and is, either may be.
     """
+    if old.verdict == new.verdict == DEPENDS:
+        return MAY
     if (old.verdict, old.tags) == (new.verdict, new.tags):
         return None
     if DEPENDS in (old.verdict, new.verdict):
@@ -103,6 +107,11 @@ def _fields(change: Change) -> tuple[str, ...]:
         old.place,
         new.place,
     )
+
+
+def told(counts: Mapping[str, int]) -> str:
+    """Returns how many changes of each kind there are; what is not settled is told where there is some."""
+    return ", ".join(f"{counts.get(kind, 0)} {kind}" for kind in CHANGES if kind != MAY or counts.get(kind, 0))
 
 
 def warnings(unlike: Sequence[str]) -> list[str]:

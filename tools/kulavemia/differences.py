@@ -3,6 +3,7 @@
 A row of the kind `may` is not settled: some command may be answered otherwise there.
 """
 
+import re
 import subprocess
 from collections import Counter
 from collections.abc import Iterator
@@ -12,16 +13,18 @@ from typing import NamedTuple
 from kulavemia import outputs
 from kulavemia.answers import Verdict
 from kulavemia.command import Fault
-from kulavemia.compare import CHANGES, kind_of
-from kulavemia.review import COMPARE, HEADERS, Asked
+from kulavemia.compare import CHANGES, MAY, kind_of
+from kulavemia.review import COMPARE, HEADERS, Asked, without
 from kulavemia.shown import shown_records
 
-MAY = "may"
-KINDS = (*CHANGES, MAY)
+KINDS = CHANGES
 # More is allowed, or may be.
 GAINS = ("gained", "gained and lost", MAY)
 # Seconds after which a comparison is given up.
 LIMIT = 600.0
+_REFUSES = "sudo_review compare refuses rules that depend on a digest, the time or another root"
+# So the program refuses a policy of which it reads more elsewhere.
+_UNREAD = re.compile(r":[0-9]+: unsupported (?:option|digest)$")
 
 
 class Difference(NamedTuple):
@@ -52,10 +55,15 @@ class Difference(NamedTuple):
         return found
 
 
-def write(old: Asked, new: Asked, path: str, limit: float = LIMIT) -> Counter[str] | None:
+class Uncompared(Exception):
+    """Says why what a policy changes was not judged for every command."""
+
+
+def write(old: Asked, new: Asked, path: str, limit: float = LIMIT) -> Counter[str]:
     """Writes what a policy changes since another one, and returns how many rows of each kind there are.
 
-    Returns nothing if the program needs more seconds than the limit; then there is no table. Raises `Fault` if it refuses.
+    Raises `Uncompared`, and writes no table, if the program needs more seconds than the limit, or refuses what it does not
+    judge. Raises `Fault` if it refuses otherwise.
     """
     counts: Counter[str] = Counter()
     try:
@@ -65,8 +73,19 @@ def write(old: Asked, new: Asked, path: str, limit: float = LIMIT) -> Counter[st
                 counts[row.kind()] += 1
                 file.write(new.form.row(_without_roots(row, old, new)).encode())
     except subprocess.TimeoutExpired:
-        return None
+        raise Uncompared(f"that takes more than {limit / 60:.0f} minutes") from None
+    except Fault as fault:
+        if _UNREAD.search(str(fault)) is None:
+            raise
+        raise Uncompared(f"{_REFUSES} ({_said(fault, old)})") from None
     return counts
+
+
+def _said(fault: Fault, old: Asked) -> str:
+    """Returns the program's line on one of the policies, with the path of the file as it is on its own machine."""
+    if not old.policy.root or old.policy.root not in str(fault):
+        return str(fault)
+    return f"{without(old.policy.root, str(fault))}, in the policy before"
 
 
 def _without_roots(row: Difference, old: Asked, new: Asked) -> Difference:

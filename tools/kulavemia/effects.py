@@ -7,10 +7,11 @@ from typing import NamedTuple
 from kulavemia.review import Caution
 
 # Who can become root may be otherwise for sudo; whether a password is asked; which commands a rule has, or what one of them is
-# worth; none of these.
+# worth; what cells themselves say that they depend on; none of these.
 WHO = "who"
 PASSWORD = "password"
 COMMANDS = "commands"
+NOTED = "noted"
 OTHER = "other"
 
 _BRACKETS = ("caret", "bracket")
@@ -34,10 +35,13 @@ _ENVIRONMENT = (
     "Whether a user may set environment variables may differ for sudo. With one, a listed command may be worth any command;"
     " who has a way to root does not differ."
 )
-_NOTED = (
-    "Whether the command may run depends on the digest of its file, the time, or another root, which are not judged: each answer"
-    " on this page may differ."
-)
+_SHOWN = "That is not judged here: a cell that depends on it has a question mark, and shows the most that may be so."
+_UNNAMED = f"sudo asks for something besides the request. {_SHOWN}"
+_NOTES = {
+    "digest": f"For sudo the digest of the command's file decides too. {_SHOWN}",
+    "time": f"For sudo the time decides too. {_SHOWN}",
+    "chroot": f"For sudo the command is the one below another root folder, and runs there. {_SHOWN}",
+}
 _CLASSES = {
     "return": Effect(WHO, _LINE),
     "blank-after-backslash": Effect(WHO, _LINE),
@@ -61,7 +65,7 @@ _CLASSES = {
     "group-form": Effect(OTHER, "Answers to requests of logs that ask for no group may differ; who can become root does not."),
     "reserved": Effect(WHO, "sudo skips this line, and each rule that has the alias: each answer on this page may differ."),
     "arguments": Effect(WHO, _LINE),
-    "depends": Effect(WHO, _NOTED),
+    "depends": Effect(NOTED, _UNNAMED),
 }
 _PASSWORDS = Effect(PASSWORD, "Whether a password is asked, and whose, is not told on this page: it shows a question mark there.")
 _TARGET = "A rule that names no target is not for root, but for the user that this line names: each answer may differ."
@@ -88,12 +92,24 @@ _UNKNOWN = Effect(WHO, "Each answer on this page may differ for sudo.")
 def effect_of(caution: Caution) -> Effect:
     """Returns what a caution means."""
     if caution.kind == "defaults":
-        return _DEFAULTS.get(caution.text.partition(":")[0], _UNKNOWN)
+        return _DEFAULTS.get(subject_of(caution.text), _UNKNOWN)
+    if caution.kind == "depends":
+        return Effect(NOTED, _NOTES.get(subject_of(caution.text), _UNNAMED))
     if caution.kind in _BRACKETS and not _has_host_bracket(caution.line):
         return Effect(COMMANDS, _LISTED)
     if caution.kind == "group-form" and (not caution.line or _GROUP_BY_SIGN.search(caution.line)):
         return Effect(WHO, _LINE)
     return _CLASSES.get(caution.kind, _UNKNOWN)
+
+
+def subject_of(text: str) -> str:
+    """Returns the subject of a caution's text: the parameter of a Defaults line, or what a command depends on."""
+    return text.partition(":")[0]
+
+
+def shown_text(kind: str, text: str) -> str:
+    """Returns a caution's text as a page shows it: of what is not judged the subject alone, since a page takes it as either."""
+    return subject_of(text) if kind == "depends" else text
 
 
 def _has_host_bracket(text: str) -> bool:

@@ -45,6 +45,6 @@ def may_go_unasked(ways: Mapping[str, Sequence[Way]], free: Mapping[str, Iterabl
 
 def _begins(user: str, ways: Iterable[Way], free: Iterable[Grant], unasked: set[str]) -> bool:
     """Returns whether one of a user's free grants may begin a chain on which nobody is asked."""
-    # A row without a user between is about the step from the user to the target too.
-    ends = {way.target for way in ways if way.via}
+    # A row without a user between is about the step from the user to the target too, unless it is about that step at its most.
+    ends = {way.target for way in ways if way.via or way.depends}
     return any(grant.has_group() or any(grant.may_be(name) for name in (ends | unasked) - {user}) for grant in free)

@@ -12,11 +12,12 @@ from dataclasses import dataclass, field
 from typing import Any, NamedTuple
 
 from kulavemia import differences, foreign, missing, outputs, review, sentences
-from kulavemia.answers import ALLOW, DENY, answers
+from kulavemia.answers import ALLOW, DENY, DEPENDS, answers
 from kulavemia.command import FAILED, Fault
-from kulavemia.compare import CHANGE_HEADER, CHANGES
+from kulavemia.compare import CHANGE_HEADER, CHANGES, MAY
+from kulavemia.depends import all_of, kinds_of, told
 from kulavemia.directory import hosts_in, users_in
-from kulavemia.effects import Effect, effect_of, is_doubtful
+from kulavemia.effects import NOTED, Effect, effect_of, is_doubtful, shown_text, subject_of
 from kulavemia.evidence import Evidence, Program, age, at, made_now
 from kulavemia.fleet_table import FleetTable, first_alike, table_of
 from kulavemia.grants import Grant, Grants
@@ -24,6 +25,7 @@ from kulavemia.numbering import Numbering
 from kulavemia.probes import Probes
 from kulavemia.program import REVIEW
 from kulavemia.requests import LOG_KEY, PROBE_KEY, sources_of
+from kulavemia.review import Counted
 from kulavemia.roots import LEVELS, NONE, UNSURE, Answer, Cell, Roots, Table
 from kulavemia.rules import Rule, Rules
 from kulavemia.shown import shown_records
@@ -47,7 +49,10 @@ VERDICTS = {
 
 
 class Inputs(NamedTuple):
-    """The inputs of a page; empty ones are left out. No link to a log is followed below the folder `collected`."""
+    """The inputs of a page; empty ones are left out. No link to a log is followed below the folder `collected`.
+
+    `uncompared` is why the policy before was not compared for every command, if it was not.
+    """
 
     title: str
     policy: str = ""
@@ -61,7 +66,7 @@ class Inputs(NamedTuple):
     requests: str = ""
     changes: str = ""
     differences: str = ""
-    is_uncompared: bool = False
+    uncompared: str = ""
     unlike: Sequence[str] = ()
     fleet: str = ""
     rows: int = 1000
@@ -85,15 +90,20 @@ class Step(NamedTuple):
 
 @dataclass
 class Changes:
-    """The changes of one kind: the same steps together, with the hosts and commands of each."""
+    """The changes of one kind: the same steps together, with the hosts and commands of each.
+
+    Of some it is not sure that there is a change: there an answer depends on what is not judged.
+    """
 
     kind: str
     count: int = 0
     steps: dict[Step, tuple[dict[str, None], dict[str, None]]] = field(default_factory=dict)
+    perhaps: int = 0
 
     def add(self, fields: dict[str, str]) -> None:
         """Adds a row of a comparison."""
         self.count += 1
+        self.perhaps += DEPENDS in (fields["old_verdict"], fields["new_verdict"])
         hosts, commands = self.steps.setdefault(Step(*(fields[name] for name in Step._fields)), ({}, {}))
         hosts[fields["host"]] = None
         commands[f"{fields['command']} {fields['arguments']}".rstrip(" ")] = None
@@ -142,12 +152,14 @@ class Page:
         if self.rules:
             for rule in self.rules.all():
                 self.places.of(rule.place)
+        self.depends: dict[str, str] = {}
         self.cautions = self._cautions() if inputs.review else []
         self.subjects = self._subjects() if inputs.review else []
         self.fleet = self._fleet() if inputs.fleet else None
         self.roots: Table | None = self.fleet.table if self.fleet else self._roots() if inputs.review else None
         self.probes = self._probes() if inputs.probe else None
         self.uses = self._uses() if inputs.requests else None
+        self.counts = self._counts() if inputs.requests else {}
         self.changes = self._changes() if inputs.changes else None
         self.differences = differences.by_kind(inputs.differences, inputs.rows) if inputs.differences else None
         self.log_texts = self._log_texts()
@@ -171,6 +183,7 @@ class Page:
     def _roots(self) -> Table:
         users, hosts = list(users_in(self.inputs.users)), hosts_in(self.inputs.hosts)
         grants = Grants(review.rows_of(self.inputs.review, review.GRANTS), users, hosts)
+        self.depends.update((grant.place, grant.depends) for grant in grants.list if grant.depends)
         roots = Roots(users, hosts, grants, self._is_doubtful() or self._lacks_rules())
         roots.take_all(review.rows_of(self.inputs.review, review.ROOTS))
         return roots
@@ -195,6 +208,23 @@ class Page:
         folder = self.inputs.requests
         uses.take_all(answers(os.path.join(folder, REPORT), sources_of(folder), LOG_KEY))
         return uses
+
+    def _counts(self) -> dict[str, Counted]:
+        """Returns what the program's table of rules counts, where there is one, and takes from it what rules depend on."""
+        if not foreign.exists(review.table_of(self.inputs.requests, review.RULES)):
+            return {}
+        found = {place: self._without_dropped(place, counted) for place, counted in review.rules_of(self.inputs.requests)}
+        self.depends.update((place, counted.depends) for place, counted in found.items() if counted.depends)
+        return found
+
+    def _without_dropped(self, place: str, counted: Counted) -> Counted:
+        """Returns the counts of a rule without the other ways in which requests of the logs may have been made."""
+        dropped = self.uses.dropped if self.uses is not None else Counter[tuple[str, str]]()
+        allowed, denied = counted.allowed - dropped[ALLOW, place], counted.denied - dropped[DENY, place]
+        # Of an answer that depends, the report does not say which of the two it would be; most rules have one of them alone.
+        either = dropped[DEPENDS, place]
+        of_allowed = min(either, allowed)
+        return counted._replace(allowed=allowed - of_allowed, denied=denied - (either - of_allowed))
 
     def _changes(self) -> list[Changes]:
         found = {kind: Changes(kind) for kind in CHANGES}
@@ -244,19 +274,20 @@ class Page:
             found += sentences.of_roots(self.roots)
             found += sentences.of_fleet(self.fleet) if self.fleet is not None else ()
             found += sentences.of_subjects(unknown)
-            found += sentences.of_cautions(len(self.cautions), self._is_doubtful())
+            found += sentences.of_cautions(len(self.otherwise()), self._is_doubtful())
+            found += sentences.of_noted(self.noted())
             found += sentences.of_missing(len(self.fleet.missing) if self.fleet is not None else bool(self.evidence.missing))
         if self.differences is not None:
             found += sentences.of_differences({of_kind.kind: of_kind.count for of_kind in self.differences})
-        if self.inputs.is_uncompared:
-            found += sentences.of_uncompared()
+        found += sentences.of_uncompared(self.inputs.uncompared)
         if self.changes is not None:
-            found += sentences.of_changes({changed.kind: changed.count for changed in self.changes})
+            perhaps = sum(changed.perhaps for changed in self.changes if changed.kind != MAY)
+            found += sentences.of_changes({changed.kind: changed.count for changed in self.changes}, perhaps)
             found += sentences.of_unlike(len(self.inputs.unlike))
         if self.uses is not None:
             found += sentences.of_logs(self.uses)
             if self.rules is not None:
-                found += sentences.of_unused(len(self.unused()), len(self.rules.all()))
+                found += sentences.of_unused(len(self.unused()), len(self.rules.all()), self.uses.noted)
         return found
 
     def reached(self) -> list[Reached]:
@@ -278,15 +309,25 @@ class Page:
         """Returns the users who have no way to root on any host."""
         return self.roots.unreached() if self.roots is not None else []
 
-    def rule_counts(self) -> dict[str, tuple[int, int]]:
-        """Returns how many requests of the logs each rule allowed and denied, by the program's table, where there is one."""
-        if not self.inputs.requests or not foreign.exists(review.table_of(self.inputs.requests, review.RULES)):
-            return {}
-        dropped = self.uses.dropped if self.uses is not None else Counter[tuple[str, str]]()
-        return {
-            place: (int(allowed) - dropped[ALLOW, place], int(denied) - dropped[DENY, place])
-            for place, _, allowed, denied, _ in review.rows_of(self.inputs.requests, review.RULES)
-        }
+    def otherwise(self) -> list[Caution]:
+        """Returns the cautions on what sudo reads or judges otherwise, not those on what is not judged."""
+        return [caution for caution in self.cautions if caution.effect.answers != NOTED]
+
+    def noted(self) -> tuple[str, ...]:
+        """Returns what commands of the policy depend on besides a request."""
+        return all_of(subject_of(caution.text) for caution in self.cautions if caution.effect.answers == NOTED)
+
+    def noted_alike(self) -> list[list[Caution]]:
+        """Returns the cautions on what is not judged, those with the same text together: a policy may have many."""
+        found: dict[str, list[Caution]] = {}
+        for caution in self.cautions:
+            if caution.effect.answers == NOTED:
+                found.setdefault(caution.text, []).append(caution)
+        return list(found.values())
+
+    def told(self, depends: str | Sequence[str]) -> str:
+        """Returns in words what something depends on: kinds, or a field that names them."""
+        return told(kinds_of(depends) if isinstance(depends, str) else depends)
 
     def time_of(self, nanoseconds: int) -> str:
         """Returns a time, with how long before the page it was."""
@@ -352,6 +393,7 @@ def rendered(page: Page) -> str:
         inputs=page.inputs,
         levels=LEVELS,
         first_alike=first_alike,
+        shown_text=shown_text,
         words=VERDICTS,
         script=markupsafe.Markup(script),
         style=markupsafe.Markup(style),

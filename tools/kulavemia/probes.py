@@ -3,18 +3,19 @@
 from collections.abc import Iterable, Sequence
 from typing import Any, NamedTuple
 
-from kulavemia.answers import ALLOW, Answer
+from kulavemia.answers import ALLOW, DEPENDS, Answer
 from kulavemia.command import Fault
 from kulavemia.numbering import Numbering, runs
 from kulavemia.text import visible
 
 
 class Said(NamedTuple):
-    """A program of a cell that is allowed, by its number, and the number of the place."""
+    """A program of a cell that is allowed, or may be, by its number, and the number of the place."""
 
     program: int
     place: int
     tags: str
+    is_sure: bool = True
 
 
 class Probes:
@@ -52,8 +53,8 @@ class Probes:
         self.count += 1
         kind = answer.key[0] if answer.key else ""
         program = self.programs.of((kind, request.command, request.arguments))
-        if verdict.verdict == ALLOW:
-            self.cell.append(Said(program, self.places.of(verdict.place), verdict.tags))
+        if verdict.verdict in (ALLOW, DEPENDS):
+            self.cell.append(Said(program, self.places.of(verdict.place), verdict.tags, verdict.verdict == ALLOW))
 
     def _end_cell(self) -> None:
         if self.host:
@@ -90,8 +91,8 @@ class Probes:
 
 
 def _grouped(cell: Sequence[Said]) -> list[list[Any]]:
-    """Returns a cell's answers with the programs of one place and tags together."""
-    found: dict[tuple[int, str], list[int]] = {}
-    for program, place, tags in cell:
-        found.setdefault((place, tags), []).append(program)
-    return [[*said, programs] for said, programs in found.items()]
+    """Returns a cell's answers with the programs of one place and tags together, and a mark behind those that may be allowed."""
+    found: dict[tuple[int, str, bool], list[int]] = {}
+    for program, place, tags, is_sure in cell:
+        found.setdefault((place, tags, is_sure), []).append(program)
+    return [[place, tags, programs, *([] if is_sure else [1])] for (place, tags, is_sure), programs in found.items()]

@@ -35,7 +35,7 @@ _PLAIN = bytes({*b"\n", *range(0x20, 0x7F)} - {*b'"'})
 # The fields of the second program's report that a report of these tools has.
 _VERDICT, _PLACE, _TAGS, _DEPENDS = range(len(REVIEWED_HEADER) - 4, len(REVIEWED_HEADER))
 _KEPT = operator.itemgetter(0, 1, _VERDICT, _PLACE, _TAGS)
-MEANING = {PROGRAM: "the program sudo_audit is not there, or refuses; its own line is shown"}
+MEANING = {PROGRAM: "the program is not there, or refuses; its own line is shown"}
 
 
 class Policy(NamedTuple):

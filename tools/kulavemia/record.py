@@ -28,6 +28,7 @@ def record_of(page: Page) -> dict[str, Any]:
         "subjects": list(map(_subject, page.subjects)),
         "changes": {changed.kind: changed.count for changed in page.changes} if page.changes is not None else None,
         "differences": _differences(page),
+        "uncompared": page.inputs.uncompared or None,
         "requests": _uses(page.uses) if page.uses is not None else None,
         "rules": list(_rules(page)),
     }
@@ -115,6 +116,7 @@ def roots_of(page: Page) -> dict[str, Any] | None:
         "users": len(page.roots.users),
         "hosts": len(page.roots.hosts),
         "doubtful": page.roots.is_doubtful(),
+        "depends": list(page.roots.depends()),
         "reached": list(map(_reached, page.reached())),
         "unreached": page.unreached(),
     }
@@ -128,6 +130,7 @@ def _reached(found: Reached) -> dict[str, Any]:
         "meaning": found.answer.meaning,
         "may_need_no_password": found.answer.is_unasked,
         "doubtful": found.answer.is_doubtful,
+        "depends": list(found.answer.depends),
         "ways": [way._asdict() for way in found.cell.ways],
         "grants": list(map(_grant, found.grants)),
     }
@@ -140,6 +143,7 @@ def _grant(grant: Grant) -> dict[str, Any]:
         "denied": bool(grant.sign),
         "command": grant.command,
         "tags": grant.tags,
+        "depends": grant.depends,
     }
 
 
@@ -170,7 +174,12 @@ def _asked(asked: Asked) -> dict[str, Any]:
 
 
 def _rules(page: Page) -> Iterable[dict[str, Any]]:
-    counts = page.rule_counts()
     for rule in page.rules.all() if page.rules is not None else ():
-        allowed, denied = counts.get(rule.place, (None, None))
-        yield {"place": rule.place, "text": rule.text, "allowed": allowed, "denied": denied}
+        counted = page.counts.get(rule.place)
+        yield {
+            "place": rule.place,
+            "text": rule.text,
+            "allowed": counted.allowed if counted else None,
+            "denied": counted.denied if counted else None,
+            "depends": page.depends.get(rule.place, ""),
+        }

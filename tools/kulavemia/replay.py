@@ -224,7 +224,7 @@ class Replay:
         self.probe = ""
         self.changes = ""
         self.differences = ""
-        self.is_uncompared = False
+        self.uncompared = ""
         self.unlike: Sequence[str] = ()
         self.gained = False
         self.unread = False
@@ -342,19 +342,19 @@ class Replay:
         self.unlike = review.unlike(self._asked(old), self._asked())
         for warning in compare.warnings(self.unlike):
             warn(warning)
-        self.say("changes: " + ", ".join(f"{counts[kind]} {kind}" for kind in compare.CHANGES))
+        self.say(f"changes: {compare.told(counts)}")
 
     def _compare_all(self, old: Prepared) -> None:
         """Has the second program say, for every command, what changes since the policy before."""
         path = self._folder(DIFFERENCES)
         if self.steps.result(DIFFERENCES) is None:
-            found = differences.write(self._asked(old), self._asked(), path)
-            if found is None:
-                self.is_uncompared = True
-                minutes = f"{differences.LIMIT / 60:.0f} minutes"
-                warn(f"the policies are not compared for every command: that takes more than {minutes}")
+            try:
+                self.steps.end(DIFFERENCES, differences.write(self._asked(old), self._asked(), path))
+            except differences.Uncompared as reason:
+                # Something may be gained.
+                self.uncompared, self.gained = str(reason), True
+                warn(f"the policies are not compared for every command: {reason}")
                 return
-            self.steps.end(DIFFERENCES, found)
         self.differences = path
         counts = Counter(self.steps.result(DIFFERENCES))
         self.gained = self.gained or any(counts[kind] for kind in differences.GAINS)
@@ -389,7 +389,7 @@ class Replay:
             requests=self.requests,
             changes=self.changes,
             differences=self.differences,
-            is_uncompared=self.is_uncompared,
+            uncompared=self.uncompared,
             unlike=self.unlike,
             rows=self.given.rows,
             collected=self.found.below or "",

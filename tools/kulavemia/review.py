@@ -16,7 +16,7 @@ from kulavemia.command import DONE, PROGRAM, Fault, as_word
 from kulavemia.policy import files_of
 from kulavemia.program import Policy, Rows, named_by, said_by, want_plain, want_written
 from kulavemia.requests import Source, batches, number_of
-from kulavemia.rows import open_write, read_open
+from kulavemia.rows import header_of, open_write, read_open
 from kulavemia.rules import shown_line
 from kulavemia.shown import Form, shown_records
 
@@ -126,7 +126,7 @@ class Asked(NamedTuple):
     def compared(self, old: "Asked", limit: float) -> Iterator[list[str]]:
         """Yields the rows of what the policy changes since another one, for every command.
 
-        Raises `subprocess.TimeoutExpired` if the program needs more seconds than the limit.
+        Raises `subprocess.TimeoutExpired` if the program needs more seconds than the limit, and `Fault` if it refuses.
         """
         words = [*self._directory(), "--", old.policy.file, self.policy.file]
         want_plain(old.policy.file, foreign.POLICY_CAP)
@@ -212,6 +212,17 @@ def table_of(folder: str, name: str) -> str:
 
 
 def rows_of(folder: str, name: str) -> Iterator[list[str]]:
-    """Yields the rows of a table in a folder of a review, or in the folder of requests."""
+    """Yields the rows of a table in a folder of a review."""
     for _, fields in shown_records(table_of(folder, name), HEADERS[name]):
         yield fields
+
+
+def rules_of(folder: str) -> Iterator[tuple[str, Counted]]:
+    """Yields the places of the rules in a folder of requests with their counts; earlier tables have no column `depends`."""
+    path = table_of(folder, RULES)
+    *earlier, last = HEADERS[RULES]
+    is_earlier = header_of(path) == earlier
+    for line, (place, *numbers) in shown_records(path, earlier if is_earlier else [*earlier, last]):
+        depends = "" if is_earlier else numbers.pop()
+        commands, allowed, denied = (number_of(path, line, number) for number in numbers)
+        yield place, Counted(commands, allowed, denied, depends)

@@ -5,6 +5,7 @@ from collections.abc import Iterable, Sequence
 from typing import Any, NamedTuple
 
 from kulavemia.command import Fault
+from kulavemia.depends import all_of, kinds_of, told
 from kulavemia.grants import Grant, Grants
 from kulavemia.lesser import ASKED, Way, may_go_unasked
 from kulavemia.numbering import Numbering, runs
@@ -51,10 +52,17 @@ class Cell(NamedTuple):
     is_absent: bool = False
 
     def best(self) -> tuple[int, Way] | None:
-        """Returns the level of the best way, and that way."""
+        """Returns the level of the best way, and that way: of several, one that depends on nothing."""
         if not self.ways:
             return None
-        return max(((_level_of(way), way) for way in self.ways), key=lambda found: found[0])
+        return max(((_level_of(way), way) for way in self.ways), key=lambda found: (found[0], not found[1].depends))
+
+    def depends(self) -> tuple[str, ...]:
+        """Returns what the best level depends on, empty if it is so whatever is noted."""
+        best = self.best() if any(way.depends for way in self.ways) else None
+        if best is None or not best[1].depends:
+            return ()
+        return all_of(way.depends for way in self.ways if _level_of(way) == best[0])
 
     def is_unasked(self) -> bool:
         """Returns whether some of the commands may need no password, where the level does not say so."""
@@ -65,13 +73,17 @@ class Cell(NamedTuple):
 
 
 class Answer(NamedTuple):
-    """What a page shows of a cell: the level, the mark and the meaning."""
+    """What a page shows of a cell: the level, the mark and the meaning.
+
+    Beside these whether sudo may decide otherwise, and what the level depends on: then it is the most that may be so.
+    """
 
     level: int
     mark: str
     meaning: str
-    is_unasked: bool
-    is_doubtful: bool
+    is_unasked: bool = False
+    is_doubtful: bool = False
+    depends: tuple[str, ...] = ()
 
 
 class Group(NamedTuple):
@@ -92,19 +104,21 @@ def answer_of(cell: Cell) -> Answer:
     """Returns what is shown of a cell. Where sudo may decide otherwise, no cell but root's own is sure."""
     best = cell.best()
     if cell.is_absent:
-        return Answer(NONE, "", ABSENT, False, False)
+        return Answer(NONE, "", ABSENT)
     if best is None:
         level = UNSURE if cell.is_doubtful else NONE
-        return Answer(level, LEVELS[level].mark, LEVELS[level].meaning, False, cell.is_doubtful)
+        return Answer(level, LEVELS[level].mark, LEVELS[level].meaning, is_doubtful=cell.is_doubtful)
     level, _ = best
-    doubtful = level != ROOT and (cell.is_doubtful or any(way.depends for way in cell.ways))
-    mark = ("?" if doubtful else "") + LEVELS[level].mark + ("?" if cell.is_unasked() else "")
-    parts = [LEVELS[level].meaning]
+    doubtful, depends = level != ROOT and cell.is_doubtful, cell.depends()
+    mark = ("?" if doubtful or depends else "") + LEVELS[level].mark + ("?" if cell.is_unasked() else "")
+    parts = [f"perhaps {LEVELS[level].meaning}" if depends else LEVELS[level].meaning]
     if cell.is_unasked():
         parts.append(UNASKED)
+    if depends:
+        parts.append(f"it depends on {told(depends)}")
     if doubtful:
         parts.append(DOUBT)
-    return Answer(level, mark, "; ".join(parts), cell.is_unasked(), doubtful)
+    return Answer(level, mark, "; ".join(parts), cell.is_unasked(), doubtful, depends)
 
 
 class Table:
@@ -127,6 +141,10 @@ class Table:
     def is_doubtful(self) -> bool:
         """Returns whether sudo may decide otherwise anywhere."""
         return any(cell.is_doubtful for cell in self.cells.list())
+
+    def depends(self) -> tuple[str, ...]:
+        """Returns what any shown level depends on."""
+        return all_of(kind for cell in self.cells.list() for kind in cell.depends())
 
     def answers(self) -> list[Answer]:
         """Returns what is shown of each cell, by its number."""
@@ -218,9 +236,16 @@ def _ways(cell: Cell, places: Numbering[str]) -> list[list[Any]]:
     found = []
     for way in cell.ways:
         place = places.of(way.place) if way.place else -1
-        found.append([*map(visible, (way.target, way.level, way.password)), place, way.tags, visible(way.via)])
+        shown = [*map(visible, (way.target, way.level, way.password)), place, way.tags, visible(way.via)]
+        found.append(shown + _depends(way.depends))
     return found
 
 
 def _grant(grant: Grant, places: Numbering[str]) -> list[Any]:
-    return [places.of(grant.place), visible(grant.runas), grant.sign, visible(grant.command), grant.tags]
+    shown = [places.of(grant.place), visible(grant.runas), grant.sign, visible(grant.command), grant.tags]
+    return shown + _depends(grant.depends)
+
+
+def _depends(depends: str) -> list[str]:
+    """Returns what something depends on as a further field, none where it depends on nothing: so most of a page's rows end."""
+    return [visible(told(kinds_of(depends)))] if depends else []

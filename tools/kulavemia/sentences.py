@@ -4,7 +4,9 @@ from collections import Counter
 from collections.abc import Callable, Iterable, Iterator, Mapping, Sequence
 from typing import NamedTuple
 
-from kulavemia.effects import WHO
+from kulavemia.compare import MAY
+from kulavemia.depends import all_of, told
+from kulavemia.effects import NOTED, WHO, subject_of
 from kulavemia.fleet_table import FleetTable
 from kulavemia.fleet_work import DONE
 from kulavemia.roots import ALL, ALL_BUT, ALL_FREE, LISTED, NONE, ROOT, UNSURE, Table
@@ -37,16 +39,29 @@ def begun(sentence: str) -> str:
 
 
 class Reach(NamedTuple):
-    """Users who reach the same on each host: on how many of the hosts each level, and whether another user is on the way."""
+    """Users who reach the same on each host: on how many of the hosts each level, and on how many of these it is not sure.
+
+    Beside these whether another user is on the way, whether some commands may need no password, and what levels depend on.
+    """
 
     users: Sequence[str]
     hosts: Counter[int]
+    perhaps: Counter[int]
     by_others: bool
     is_unasked: bool
+    depends: tuple[str, ...]
 
     def best(self) -> int:
         """Returns the best level on any host."""
         return max(self.hosts, default=NONE)
+
+    def on_hosts(self, levels: Iterable[int]) -> int:
+        """Returns on how many hosts there is one of these levels."""
+        return sum(self.hosts[level] for level in levels)
+
+    def sure_on(self, levels: Iterable[int]) -> int:
+        """Returns on how many hosts one of these levels depends on nothing."""
+        return sum(self.hosts[level] - self.perhaps[level] for level in levels)
 
 
 def reaches_of(roots: Table) -> list[Reach]:
@@ -55,11 +70,15 @@ def reaches_of(roots: Table) -> list[Reach]:
     found = []
     for group in roots.groups():
         hosts: Counter[int] = Counter()
+        perhaps: Counter[int] = Counter()
         for cell, count in Counter(group.row).items():
             hosts[answers[cell].level] += count
+            perhaps[answers[cell].level] += count if answers[cell].depends else 0
         different = set(group.row)
         by_others = any(way.via for cell in different for way in cells[cell].ways)
-        found.append(Reach(group.users, hosts, by_others, any(answers[cell].is_unasked for cell in different)))
+        unasked = any(answers[cell].is_unasked for cell in different)
+        depends = all_of(kind for cell in different for kind in answers[cell].depends)
+        found.append(Reach(group.users, hosts, perhaps, by_others, unasked, depends))
     return found
 
 
@@ -86,6 +105,24 @@ class _Users:
             said += f", {one.format(number_of(partly))} on some of the hosts"
         return said
 
+    def can(self, levels: Iterable[int]) -> str:
+        """Returns what the users can: perhaps, if no host is sure of any of them."""
+        return "can" if any(reach.sure_on(levels) for reach in self.reaches) else "can perhaps"
+
+    def perhaps(self, levels: Sequence[int], is_on_all: bool = False) -> str:
+        """Returns how many of the users come so far perhaps, where not all do, as a part of a sentence.
+
+        They are those of whom no host is sure; where a sentence is about all hosts, also those of whom not each is.
+        """
+        nowhere = len(self.those(lambda reach: not reach.sure_on(levels)).names)
+        partly = len(self.those(lambda reach: 0 < reach.sure_on(levels) < reach.on_hosts(levels)).names) if is_on_all else 0
+        if partly == len(self.names):
+            return ", on some of them perhaps"
+        said = f", {number_of(nowhere)} of them perhaps" if 0 < nowhere < len(self.names) else ""
+        if partly:
+            said += f", {number_of(partly)} of them perhaps on some of the hosts"
+        return said
+
 
 def on_all(hosts: Sequence[str]) -> str:
     """Returns all hosts, as a part of a sentence."""
@@ -108,28 +145,30 @@ def on_none(hosts: Sequence[str]) -> str:
 
 def of_roots(roots: Table) -> Iterator[str]:
     """Yields who can become root."""
-    hosts, everyone = roots.hosts, _Users(reaches_of(roots))
+    hosts, everyone, any_command = roots.hosts, _Users(reaches_of(roots)), (ALL, ALL_FREE)
     rest = everyone.those(lambda reach: reach.best() != ROOT)
     if own := everyone.those(lambda reach: reach.best() == ROOT).names:
         yield f"{begun(counted(len(own), 'user'))} {'is' if len(own) == 1 else 'are'} root by the ID 0: {listed(own)}."
-    every = rest.those(lambda reach: reach.hosts[ALL] + reach.hosts[ALL_FREE] == len(hosts))
+    every = rest.those(lambda reach: reach.on_hosts(any_command) == len(hosts))
     if every.names:
         yield (
-            f"{begun(counted(len(every.names), 'user'))} can run any command as root {on_all(hosts)}{every.free()}:"
-            f" {listed(every.names)}."
+            f"{begun(counted(len(every.names), 'user'))} {every.can(any_command)} run any command as root"
+            f" {on_all(hosts)}{every.free()}{every.perhaps(any_command, True)}: {listed(every.names)}."
         )
-    some = rest.those(lambda reach: reach.best() in (ALL, ALL_FREE) and reach not in every.reaches)
+    some = rest.those(lambda reach: reach.best() in any_command and reach not in every.reaches)
     if some.names:
         yield (
-            f"{begun(counted(len(some.names), 'further user' if every.names else 'user'))} can run any command as root"
-            f" {on_some(hosts)}{some.free()}: {listed(some.names)}."
+            f"{begun(counted(len(some.names), 'further user' if every.names else 'user'))} {some.can(any_command)} run any"
+            f" command as root {on_some(hosts)}{some.free()}{some.perhaps(any_command)}: {listed(some.names)}."
         )
     for level, what, advice in (
         (ALL_BUT, "any command as root but listed ones", ". A copy of such a command under another name is not listed"),
         (LISTED, "listed commands as root", ". Whether one of these gives more, a reader has to judge"),
     ):
-        if names := rest.those(lambda reach: reach.best() == level).names:
-            yield f"{begun(counted(len(names), 'user'))} can run {what} {on_some(hosts)}: {listed(names)}{advice}."
+        found = rest.those(lambda reach: reach.best() == level)
+        if names := found.names:
+            start = f"{begun(counted(len(names), 'user'))} {found.can((level,))} run {what} {on_some(hosts)}"
+            yield f"{start}{found.perhaps((level,))}: {listed(names)}{advice}."
     yield from _asides(roots, rest)
 
 
@@ -141,11 +180,21 @@ def _asides(roots: Table, rest: _Users) -> Iterator[str]:
         yield f"Of these, {number_of(len(others))} {gets} there through another user or group: {listed(others)}."
     if unasked := reaching.those(lambda reach: reach.is_unasked).names:
         yield f"For {number_of(len(unasked))} of these some of the commands may need no password: {listed(unasked)}."
+    yield from _perhaps(roots, reaching)
     none = len(rest.names) - len(reaching.names)
     if none:
         subject = f"The other {counted(none, 'known user')} have" if none > 1 else "The other known user has"
+        noted = " and whether what rules depend on is met or not" if roots.depends() else ""
         sure = "; but sudo may decide otherwise" if roots.is_doubtful() else ": that is proved"
-        yield f"{subject} no way to root by sudo {on_none(roots.hosts)}, whatever command is asked for{sure}."
+        yield f"{subject} no way to root by sudo {on_none(roots.hosts)}, whatever command is asked for{noted}{sure}."
+
+
+def _perhaps(roots: Table, reaching: _Users) -> Iterator[str]:
+    """Yields of whom the answer depends on what is not judged, and on what."""
+    for kind in roots.depends():
+        names = reaching.those(lambda reach: kind in reach.depends).names
+        some = "" if len(roots.hosts) == 1 else ", on one or more of the hosts"
+        yield f"For {number_of(len(names))} of these it depends on {told([kind])}, which is not judged{some}: {listed(names)}."
 
 
 def of_fleet(fleet: FleetTable) -> Iterator[str]:
@@ -158,13 +207,16 @@ def of_fleet(fleet: FleetTable) -> Iterator[str]:
         has = "name has" if len(fleet.ids) == 1 else "names have"
         names = [f"{user} ({_some(found)})" for user, found in fleet.ids.items()]
         yield f"{begun(number_of(len(names)))} {has} several IDs, and may be several people: {listed(names)}."
-    if fleet.cautions:
-        hosts = {host for note in fleet.cautions for host in note.hosts}
-        who = {host for note in fleet.cautions if note.answers == WHO for host in note.hosts}
+    noted = [note for note in fleet.cautions if note.answers == NOTED]
+    others = [note for note in fleet.cautions if note.answers != NOTED]
+    if others:
+        hosts = {host for note in others for host in note.hosts}
+        who = {host for note in others if note.answers == WHO for host in note.hosts}
         some = f"on {number_of(len(who))} of them who can become root may differ"
         of_hosts = f"of the policies of {counted(len(hosts), 'host')}"
         differs = some if who else "none changes who can become root"
         yield f"sudo reads or judges constructs {of_hosts} otherwise than this page: {differs}."
+    yield from of_noted(all_of(subject_of(note.text) for note in noted), len({host for note in noted for host in note.hosts}))
 
 
 def _some(ids: Sequence[str]) -> str:
@@ -190,6 +242,13 @@ def of_cautions(count: int, is_doubtful: bool) -> Iterator[str]:
         yield f"sudo reads or judges {counted(count, 'construct')} of the policy otherwise than this page: {changes}."
 
 
+def of_noted(kinds: Sequence[str], hosts: int = 1) -> Iterator[str]:
+    """Yields that rules depend on what is not judged, in the policies of so many hosts."""
+    if kinds:
+        rules = f"rules of {number_of(hosts)} hosts" if hosts > 1 else "rules"
+        yield f"What {rules} depend on is not judged ({told(kinds)}): an answer that depends on it has a question mark."
+
+
 def of_missing(hosts: int) -> Iterator[str]:
     """Yields that something could not be gathered, of so many hosts."""
     if hosts:
@@ -212,21 +271,28 @@ def of_differences(counts: Mapping[str, int]) -> Iterator[str]:
     yield f"{start}some commands are answered otherwise: {listed(parts)}."
 
 
-def of_uncompared() -> Iterator[str]:
-    """Yields that the policies were not compared for every command."""
-    yield "The policy before was not compared for every command: that would take too long."
+def of_uncompared(reason: str) -> Iterator[str]:
+    """Yields that what changes was not judged for every command, and why."""
+    if reason:
+        yield f"What changes since the policy before was not judged for every command: {reason}."
 
 
-def of_changes(counts: Mapping[str, int]) -> Iterator[str]:
-    """Yields what the new policy changes."""
+def of_changes(counts: Mapping[str, int], perhaps: int = 0) -> Iterator[str]:
+    """Yields what the new policy changes; how many of the gains and losses depend on what is not judged."""
     gained = sum(count for kind, count in counts.items() if kind.startswith("gained"))
-    lost = counts.get("lost", 0)
+    lost, may = counts.get("lost", 0), counts.get(MAY, 0)
+    of_them = "of the requests of the logs and the probes"
     if gained or lost:
         parts = [f"{_or_none(count)} {verb if count > 1 else verb + 's'}" for count, verb in ((gained, "gain"), (lost, "lose"))]
-        of_them = "of the requests of the logs and the probes"
-        yield f"Against the policy before, {of_them} {parts[0]} something and {parts[1]} something."
+        some = f", {number_of(perhaps)} of them perhaps, by rules that depend on what is not judged" if perhaps else ""
+        yield f"Against the policy before, {of_them} {parts[0]} something and {parts[1]} something{some}."
+    elif may:
+        yield f"Against the policy before, {of_them} none is known to gain or lose anything."
     elif counts:
         yield "Against the policy before, no request of the logs and no probe gains or loses anything."
+    if may:
+        answer = "the answer depends" if may == 1 else "the answers depend"
+        yield f"For {number_of(may)} {of_them} {answer} on what is not judged under both policies: a change does not show."
 
 
 def of_unlike(count: int) -> Iterator[str]:
@@ -262,10 +328,11 @@ def of_logs(uses: Uses) -> Iterator[str]:
     yield f"Of {counted(uses.count, 'request')} in the logs, {joined}."
 
 
-def of_unused(unused: int, total: int) -> Iterator[str]:
-    """Yields how many rules no request used."""
+def of_unused(unused: int, total: int, noted: int = 0) -> Iterator[str]:
+    """Yields how many rules no request used; what so many requests depend on is taken as met."""
     if unused:
-        yield f"{begun(number_of(unused))} of {counted(total, 'rule')} decided no request of the logs."
+        met = ", if what rules depend on was met" if noted else ""
+        yield f"{begun(number_of(unused))} of {counted(total, 'rule')} decided no request of the logs{met}."
 
 
 def _is(count: int) -> str:

@@ -70,7 +70,7 @@ class Kind:
 
 
 class Uses:
-    """Sorts the answers to the requests of logs."""
+    """Sorts the answers to the requests of logs, and counts those that depend on what is not judged as `noted`."""
 
     def __init__(self) -> None:
         self.denied = Kind()
@@ -79,6 +79,7 @@ class Uses:
         self.same = 0
         self.failed = 0
         self.count = 0
+        self.noted = 0
         self.places: Counter[str] = Counter()
         # The verdicts, with their places, on the other way in which a request may have been made.
         self.dropped: Counter[tuple[str, str]] = Counter()
@@ -103,8 +104,8 @@ class Uses:
             self._take(waiting)
 
     def _take_either(self, plain: Answer, edit: Answer) -> None:
-        """Takes of the same request, in two ways, the one that is allowed, or else the first."""
-        is_edit = plain.verdict.verdict != ALLOW and edit.verdict.verdict == ALLOW
+        """Takes of the same request, in two ways, the one that is allowed, or else may be, or else the first."""
+        is_edit = _ease(edit) > _ease(plain)
         taken, dropped = (edit, plain) if is_edit else (plain, edit)
         self._take(taken)
         self.dropped[dropped.verdict.verdict, dropped.verdict.place] += 1
@@ -112,6 +113,7 @@ class Uses:
     def _take(self, answer: Answer) -> None:
         log, line, time, outcome, reason, note = answer.key
         self.count += 1
+        self.noted += answer.verdict.verdict == DEPENDS
         self.places[answer.verdict.place] += 1
         kind = self._kind(answer.verdict.verdict, outcome)
         if kind is not None:
@@ -129,6 +131,11 @@ class Uses:
         if outcome == REFUSED and verdict == ALLOW:
             return self.allowed
         return None
+
+
+def _ease(answer: Answer) -> int:
+    """Returns how sure it is that an answer allows."""
+    return {ALLOW: 2, DEPENDS: 1}.get(answer.verdict.verdict, 0)
 
 
 def texts_of(asked: Iterable[Asked], below: str | None = None) -> dict[tuple[str, int], str]:

@@ -5,11 +5,12 @@ from collections.abc import Iterable, Sequence
 from support import EXAMPLES
 from kulavemia.answers import Answer, Verdict
 from kulavemia.differences import Difference, Differences
-from kulavemia.effects import Effect
+from kulavemia.effects import Effect, effect_of
 from kulavemia.evidence import Evidence, Host, Log, Made, Program
 from kulavemia.grants import Grants
 from kulavemia.page import Caution, Changes, Inputs, Page, Step, Subject
 from kulavemia.requests import Request
+from kulavemia.review import Caution as Read
 from kulavemia.roots import Roots
 from kulavemia.sorting import Tally
 from kulavemia.sums import File
@@ -31,11 +32,9 @@ def on_all(user: str, level: str, password: str = "own", **more: str) -> list[li
     return [way(user, host, level, password, **more) for host in HOSTS]
 
 
-def grant(
-    users: str, command: str, tags: str = "", sign: str = "", hosts: str = "ALL", place: str = "p:1", runas: str = ""
-) -> list[str]:
+def grant(users: str, command: str, tags: str = "", sign: str = "", hosts: str = "ALL", **more: str) -> list[str]:
     """Returns a row of the table of grants."""
-    return [place, users, hosts, runas, sign, command, tags, ""]
+    return [more.get("place", "p:1"), users, hosts, more.get("runas", ""), sign, command, tags, more.get("depends", "")]
 
 
 def by_host(rows: Iterable[Sequence[str]]) -> list[Sequence[str]]:
@@ -71,6 +70,28 @@ def example_page() -> Page:
     ]
     grants = [grant("dora", "/opt/only <b>"), grant("dora", "/opt/never", sign="!"), grant("ann", "ALL", "NOPASSWD")]
     return page_of(roots_of(rows, [[f"{POLICY}:47", *row[1:]] for row in grants]))
+
+
+def noted_page() -> Page:
+    """Returns a page with users of each level of whom it depends on what is not judged."""
+    rows = [
+        *on_all("root", "root", "none"),
+        *on_all("ann", "all", "none", place=f"{POLICY}:45", depends="digest time"),
+        way("bob", "h1", "all", place=f"{POLICY}:46"),
+        way("bob", "h2", "all", place=f"{POLICY}:47", via="ann", depends="digest time chroot"),
+        *on_all("cid", "all-but", place=f"{POLICY}:48", depends="chroot"),
+        *on_all("dora", "listed", "?", place=f"{POLICY}:49", tags="NOPASSWD", depends="time"),
+    ]
+    grants = [
+        grant("ann", "ALL", "NOPASSWD", place=f"{POLICY}:45", depends="digest time"),
+        grant("dora", "/opt/only", place=f"{POLICY}:48"),
+        grant("dora", "/opt/noted", "NOPASSWD", place=f"{POLICY}:49", depends="time"),
+    ]
+    page = page_of(roots_of(rows, grants))
+    page.depends = {f"{POLICY}:45": "digest time", f"{POLICY}:49": "time"}
+    texts = [Read(f"{POLICY}:45", "depends", f"{kind}: asked", "ann ALL = ALL") for kind in ("digest", "time")]
+    page.cautions = [Caution(*caution, effect_of(caution)) for caution in texts]
+    return page
 
 
 def full_page() -> Page:

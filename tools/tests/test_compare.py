@@ -60,6 +60,13 @@ class Command(Case):
         )
         self.assertEqual(err, "compare: 1 gained, 0 gained and lost, 1 lost, 1 other\n")
 
+    def test_what_is_not_settled(self) -> None:
+        self.write("old.csv", REPORT + "s,1,depends,p:1,\ns,2,nomatch,,\ns,3,allow,p:1,\ns,4,depends,p:3,\n")
+        out, err = self.compare("s,1,depends,q:9,NOPASSWD\ns,2,nomatch,,\ns,3,allow,q:1,\ns,4,depends,p:3,\n", 0)
+        rows = ["may,s,1,a,h,,,/x,,depends,depends,,NOPASSWD,p:1,q:9", "may,s,4,d,h,,,/x,,depends,depends,,,p:3,p:3"]
+        self.assertEqual(out.splitlines()[1:], rows)
+        self.assertEqual(err, "compare: 0 gained, 0 gained and lost, 0 lost, 0 other, 2 may\n")
+
     def test_nothing_gained(self) -> None:
         self.compare("s,1,deny,q:9,\ns,2,nomatch,,\ns,3,allow,q:1,NOPASSWD\ns,4,deny,p:3,\n", 0)
 

@@ -8,7 +8,7 @@ import time
 import unittest
 
 from recorded import faults_of
-from rooted import example_page
+from rooted import example_page, noted_page
 from support import Case, needs_jinja, needs_keygen, needs_schema
 from kulavemia import evidence, signing
 from kulavemia.command import Fault
@@ -73,6 +73,21 @@ class Record(Case):
         self.assertEqual(found["roots"]["unreached"], ["eve"])
         self.assertEqual(found["files"][-1], {"role": "log", "path": "-", "bytes": 0, "sha256": None})
         self.assertTrue(faults_of({**found, "more": 1}) and faults_of({**found, "format": "x"}))
+
+    @needs_schema
+    def test_what_depends_is_in_the_record(self) -> None:
+        found = record_of(noted_page())
+        self.assertEqual(faults_of(found), [])
+        self.assertEqual(found["roots"]["depends"], ["digest", "time", "chroot"])
+        reached = {(row["users"][0], row["hosts"][0]): row for row in found["roots"]["reached"]}
+        self.assertEqual(reached["bob", "h1"]["depends"], [])
+        self.assertEqual(reached["bob", "h2"]["depends"], ["digest", "time", "chroot"])
+        self.assertFalse(reached["bob", "h2"]["doubtful"])
+        self.assertEqual(reached["bob", "h2"]["ways"][0]["depends"], "digest time chroot")
+        self.assertEqual([grant["depends"] for grant in reached["dora", "h1"]["grants"]], ["", "time"])
+        self.assertEqual({caution["answers"] for caution in found["cautions"]}, {"noted"})
+        self.assertIn("What rules depend on is not judged (a digest and the time):", " ".join(found["sentences"]))
+        self.assertNotIn("sudo reads or judges", " ".join(found["sentences"]))
 
     def test_the_page_and_the_record_say_the_same_sentences(self) -> None:
         page = example_page()

@@ -7,9 +7,11 @@ import unittest
 from collections.abc import Sequence
 
 from browsing import Browser
-from support import Case, needs_driver, needs_jinja, needs_review
+from recorded import faults_of
+from support import Case, needs_driver, needs_jinja, needs_review, needs_schema
 from kulavemia.evidence import Evidence, Made
 from kulavemia.fleet_evidence import FILES_HEADER
+from kulavemia.fleet_record import record_of
 from kulavemia.fleet_review import REVIEWED_HEADER, reviewed_in
 from kulavemia.fleet_table import table_of
 from kulavemia.page import Inputs, Page, rendered
@@ -18,6 +20,7 @@ from kulavemia.review import HEADERS
 
 POLICY = "root ALL = (ALL) ALL\n@includedir /etc/sudoers.d\n"
 USERS = "user,uid,groups\nroot,0,root:0\nann,{},ann:1\nbob,1002,bob:1002\n"
+DIGEST = "sha224:0GomF8mNN3wlDt1HD9XldjJ3SNgpFdbjO1+NsQ=="
 MADE = Evidence(Made("2026-01-01T00:00:00+00:00", "UTC", "ann", "vm", "0"))
 
 
@@ -54,6 +57,17 @@ class Command(FleetRoots):
         self.assertEqual(found.ids, {"ann": ["1001", "2001"]})
         self.assertIn(("user", "gus", ["b"]), [(note.kind, note.text, note.hosts) for note in found.subjects])
         self.assertEqual([(note.kind, note.hosts) for note in found.cautions], [("case", ["c"])])
+
+    def test_what_depends_is_marked_on_its_host_alone(self) -> None:
+        self.host("a", "ann ALL = ALL\n")
+        self.host("b", f"ann ALL = NOTAFTER=20270101000000Z NOPASSWD: ALL\nbob ALL = {DIGEST} /opt/x\n")
+        self.host("c", "bob ALL = (ann) CHROOT=/srv ALL\nann ALL = ALL\n")
+        out, err = self.fleet()
+        self.assertEqual((out, err), ("3 hosts reviewed; 0 refused, 0 failed\n", ""))
+        self.assertEqual(self.marks(), {"ann": "A ?A! A", "bob": "· ?L ?A", "root": "R R R"})
+        found = table_of(self.path("out"))
+        noted = [(note.text.partition(":")[0], note.answers, note.hosts) for note in found.cautions]
+        self.assertEqual(sorted(noted), [("chroot", "noted", ["c"]), ("digest", "noted", ["b"]), ("time", "noted", ["b"])])
 
     def test_rules_that_could_not_be_gathered_leave_no_cell_of_the_host_sure(self) -> None:
         for name in ("a", "b"):
@@ -173,6 +187,59 @@ class OfTables(FleetRoots):
         self.assertEqual((len(data["roots"]["users"]), len(data["roots"]["hosts"])), (31, 3))
         targets = set(re.findall('id="([^"]+)"', text))
         self.assertFalse({link for link in re.findall('href="#([^"]+)"', text)} - targets)
+
+    def noted_tables(self) -> None:
+        """Writes the tables of two hosts, on one of which it depends on what is not judged who can become root."""
+        self.tables(2, 30)
+        host = "host001.example.org"
+        rows = self.read(f"out/roots/{host}/roots.csv").replace(f"user0003,{host},root,all,own,/etc/sudoers:4,,,", "")
+        rows = "".join(f"{row}\n" for row in rows.splitlines() if row)
+        self.write(f"out/roots/{host}/roots.csv", rows + f"user0003,{host},root,all,none,/etc/sudoers:4,NOPASSWD,,digest time\n")
+        cautions = [f"/etc/sudoers:4,depends,{kind}: sudo asks for it too,x ALL = ALL\n" for kind in ("digest", "time")]
+        self.write(f"out/roots/{host}/cautions.csv", ",".join(HEADERS["cautions"]) + "\n" + "".join(cautions))
+
+    def test_what_depends_on_one_host(self) -> None:
+        self.noted_tables()
+        page = self.page()
+        assert page.fleet is not None
+        self.assertEqual(self.marks()["user0003"], "A ?A!")
+        self.assertEqual(self.marks()["user0004"], "A A")
+        text = rendered(page)
+        for part in (
+            "20 users can run any command as root on both hosts, one of them without a password on some of the hosts, one of"
+            " them perhaps on some of the hosts: ",
+            "For one of these it depends on a digest, which is not judged, on one or more of the hosts: user0003.",
+            "What rules depend on is not judged (a digest and the time): an answer that depends on it has a question mark.",
+            "perhaps any command as root, without a password; it depends on a digest and the time",
+            "For sudo the time decides too. That is not judged here",
+        ):
+            self.assertTrue(part in text, part)
+        self.assertFalse("sudo reads or judges constructs of" in text)
+        record = record_of(page, page.fleet)
+        self.assertEqual(record["roots"]["depends"], ["digest", "time"])
+        self.assertEqual({note["answers"] for note in record["cautions"]}, {"noted"})
+        reached = {(row["users"][0], *row["hosts"]): row for row in record["roots"]["reached"]}
+        self.assertEqual(reached["user0003", "host001.example.org"]["depends"], ["digest", "time"])
+        self.assertEqual(reached["user0003", "host000.example.org"]["depends"], [])
+
+    @needs_schema
+    def test_the_record_of_what_depends_has_the_form_of_the_schema(self) -> None:
+        self.noted_tables()
+        page = self.page()
+        assert page.fleet is not None
+        self.assertEqual(faults_of(record_of(page, page.fleet), "fleet"), [])
+
+    @needs_driver
+    def test_what_depends_is_shown_on_the_page_of_a_fleet(self) -> None:
+        self.noted_tables()
+        path = self.path("page.html")
+        write_page(self.page(), path)
+        with Browser(1280) as browser:
+            browser.open(path)
+            browser.element("#heat td.all-free button").click()
+            shown = browser.text("#answers")
+        self.assertIn("Perhaps any command as root, without a password; it depends on a digest and the time.", shown)
+        self.assertIn("This depends on a digest and the time, which is not judged: it is the most that may be so", shown)
 
     def test_hosts_that_stand_in_several_rows_are_listed_once(self) -> None:
         self.tables(12, 1, True)

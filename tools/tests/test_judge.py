@@ -71,7 +71,7 @@ class Reports(Case):
             ("allow", "depends", "lost"),
             ("depends", "allow", "gained"),
             ("depends", "deny", "lost"),
-            ("depends", "depends", None),
+            ("depends", "depends", "may"),
         ):
             self.assertEqual(kind_of(Verdict(old, "", ""), Verdict(new, "", "")), kind, f"{old} {new}")
 

@@ -60,6 +60,14 @@ class Cautions(Case):
         self.write("p", "ann ALL = CWD=/srv CHROOT=srv /opt/x\n")
         self.assertIn("p:1: error: unsupported option", self.lint("p", status=1))
 
+    def test_a_fault_that_the_second_program_alone_reaches(self) -> None:
+        self.write("p", "ann ALL = CHROOT=/srv /opt/x\nbob ALL = NOPASSWD:\\\n  = ALL\n")
+        lines = self.lint("p", status=1).splitlines()
+        self.assertEqual(lines[0], "p:3:3: error: syntax error, expected command")
+        self.assertEqual(lines[-2:], ["      = sudo_review: p:2:20: syntax error, expected command", "p: refused"])
+        self.write("p", "ann ALL = CHROOT=/srv /opt/x\nbob ALL = NOPASWD: /opt/x\n")
+        self.assertIn("p:2:20: error: syntax error, expected member\n", self.lint("p", status=1))
+
     def test_formats(self) -> None:
         found = json.loads(self.lint("--format", "json", "p"))["files"][0]
         self.assertEqual((found["status"], found["ok"]), (0, True))

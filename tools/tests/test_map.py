@@ -4,7 +4,7 @@ import unittest
 from collections.abc import Iterable, Sequence
 
 from browsing import Browser, clipped
-from rooted import HOSTS, USERS, example_page, full_page, grant, large_page, on_all, page_of, roots_of, way
+from rooted import HOSTS, USERS, example_page, full_page, grant, large_page, noted_page, on_all, page_of, roots_of, way
 from support import Case, needs_driver, needs_jinja, needs_poppler
 from kulavemia import effects, sentences
 from kulavemia.command import Fault
@@ -82,8 +82,46 @@ class Cells(unittest.TestCase):
         rows = [*on_all("ann", "all"), *on_all("ann", "listed", "?", target="toor")]
         self.assertEqual(self.marks(rows), "· A? · · · ·")
 
-    def test_a_row_that_depends_is_doubtful(self) -> None:
-        self.assertEqual(self.marks(on_all("ann", "all", depends="a digest")), "· ?A · · · ·")
+    def test_what_depends_is_marked_and_not_sure(self) -> None:
+        rows = [
+            *on_all("root", "root", "none"),
+            *on_all("ann", "all", "none", depends="time"),
+            *on_all("bob", "all", depends="digest"),
+            *on_all("cid", "all-but", "?", depends="chroot"),
+            *on_all("dora", "listed", depends="digest time"),
+        ]
+        self.assertEqual(self.marks(rows), "R ?A! ?A ?B? ?L ·")
+        answers = {answer.mark: answer for answer in roots_of(rows).answers()}
+        self.assertEqual(answers["?L"].meaning, "perhaps listed commands as root; it depends on a digest and the time")
+        self.assertEqual((answers["?L"].depends, answers["?L"].is_doubtful), (("digest", "time"), False))
+        self.assertEqual(answers["·"].meaning, "no way to root")
+        # A caution makes no cell less sure twice, and each says why.
+        self.assertEqual(self.marks(rows, is_doubtful=True), "R ?A! ?A ?B? ?L ?")
+        (doubtful,) = [answer for answer in roots_of(rows, (), True).answers() if answer.mark == "?A!"]
+        self.assertTrue(doubtful.meaning.endswith("; it depends on the time; sudo may decide otherwise"))
+
+    def test_the_best_level_is_sure_if_one_of_its_ways_is(self) -> None:
+        for level, password, depends, mark in (
+            ("all", "own", "", "A"),
+            ("listed", "own", "", "?A"),
+            ("all", "none", "digest", "?A!"),
+            ("listed", "?", "digest", "?A?"),
+        ):
+            rows = [*on_all("ann", "all", depends="time"), *on_all("ann", level, password, target="toor", depends=depends)]
+            self.assertEqual(self.marks(rows).split()[1], mark, f"{level} {password} {depends}")
+        rows = [*on_all("ann", "all"), *on_all("ann", "listed", target="toor", depends="time")]
+        self.assertEqual(self.marks(rows).split()[1], "A")
+
+    def test_a_step_that_depends_may_need_no_password(self) -> None:
+        # At its most the step asks for one; as it may be otherwise, its commands may need none.
+        free = [grant("ann", "/a", "NOPASSWD", depends="digest"), grant("bob", "/a", "NOPASSWD")]
+        rows = [*on_all("ann", "all", depends="time"), *on_all("bob", "all")]
+        self.assertEqual(self.marks(rows, free), "· ?A? A · · ·")
+
+    def test_what_is_depended_on_and_not_known(self) -> None:
+        (answer,) = [answer for answer in roots_of(on_all("ann", "all", depends="<b>x y")).answers() if answer.depends]
+        self.assertEqual((answer.mark, answer.depends), ("?A", ("other",)))
+        self.assertTrue(answer.meaning.endswith("it depends on something unknown to these tools"))
 
     def test_the_best_of_several_targets(self) -> None:
         rows = [*on_all("ann", "listed"), *on_all("ann", "all", "none", target="toor")]
@@ -131,6 +169,47 @@ class Sentences(unittest.TestCase):
         self.assertEqual(self.said(rows), wanted)
         self.assertTrue(self.said(rows, is_doubtful=True)[-1].endswith("; but sudo may decide otherwise."))
 
+    def test_what_depends_is_said_so(self) -> None:
+        every, one = "can run any command as root on both hosts", "can perhaps run listed commands as root on one or more of the"
+        partly = [way("bob", "h1", "all"), way("bob", "h2", "all", depends="time")]
+        for rows, said in (
+            (on_all("ann", "all", depends="digest"), ["One user can perhaps run any command as root on both hosts: ann."]),
+            (
+                [*on_all("ann", "all", depends="digest"), *on_all("bob", "all"), *on_all("cid", "all")],
+                [f"Three users {every}, one of them perhaps: ann, bob and cid."],
+            ),
+            (
+                [*on_all("ann", "all", "none", depends="digest"), *partly],
+                [f"Two users {every}, one of them without a password, one of them perhaps, one of them perhaps on some of the"
+                 " hosts: ann and bob."],
+            ),
+            (partly, ["One user can run any command as root on both hosts, on some of them perhaps: bob."]),
+            (
+                # Of bob one host is sure, and of cid none.
+                [way("bob", "h1", "all"), way("cid", "h1", "all", depends="chroot"), way("cid", "h2", "listed")],
+                ["Two users can run any command as root on one or more of the 2 hosts, one of them perhaps: cid and bob."],
+            ),
+            (
+                [way("ann", "h1", "listed", depends="time")],
+                [f"One user {one} 2 hosts: ann. Whether one of these gives more, a reader has to judge."],
+            ),
+        ):
+            self.assertEqual(self.said(rows)[:1], said)
+
+    def test_on_what_it_depends_is_said(self) -> None:
+        partly = [way("bob", "h1", "all"), way("bob", "h2", "all", depends="time")]
+        rows = [*on_all("ann", "all", depends="digest time"), *partly]
+        wanted = [
+            "For one of these it depends on a digest, which is not judged, on one or more of the hosts: ann.",
+            "For two of these it depends on the time, which is not judged, on one or more of the hosts: ann and bob.",
+            "The other four known users have no way to root by sudo on either host, whatever command is asked for and whether"
+            " what rules depend on is met or not: that is proved.",
+        ]
+        self.assertEqual(self.said(rows)[1:], wanted)
+        self.assertEqual(list(sentences.of_noted(())), [])
+        (said,) = sentences.of_noted(("digest", "chroot"), 2)
+        self.assertIn("What rules of two hosts depend on is not judged (a digest and another root folder): ", said)
+
     def test_who_needs_no_password_on_some_hosts(self) -> None:
         partly = [way("bob", "h1", "all", "none"), way("bob", "h2", "all")]
         start, end = "users can run any command as root on both hosts", "on some of the hosts: "
@@ -151,6 +230,11 @@ class Sentences(unittest.TestCase):
         ):
             self.assertEqual(list(sentences.of_changes(counts)), [start + said])
         self.assertIn("no request", next(sentences.of_changes({"gained": 0, "lost": 0, "other": 3})))
+        (said,) = sentences.of_changes({"gained": 2, "lost": 1}, 2)
+        self.assertIn("one loses something, two of them perhaps, by rules that depend on what is not judged.", said)
+        none, may = sentences.of_changes({"gained": 0, "lost": 0, "may": 2})
+        self.assertTrue(none.endswith(" none is known to gain or lose anything."))
+        self.assertIn("For two of the requests of the logs and the probes the answers depend on what is not judged", may)
 
     def test_numbers_and_lists(self) -> None:
         self.assertEqual(sentences.counted(1, "host"), "one host")
@@ -183,8 +267,14 @@ class Effects(unittest.TestCase):
     def test_each_class_that_may_change_a_cell_says_so(self) -> None:
         # By the rows of docs/PROFILE.md: these lines have another rule, or name others, for sudo.
         changing = "return blank-after-backslash join torn-mark include-escape include-indent comment empty-group escape case"
-        for name in f"{changing} quoted-host quoted-escape network reserved arguments depends one-of-tomorrow".split():
+        for name in f"{changing} quoted-host quoted-escape network reserved arguments one-of-tomorrow".split():
             self.assertEqual(self.effect(name, "alice ALL = /bin/ls"), effects.WHO, name)
+        # The rows of who can become root say themselves what depends on what is noted.
+        meanings = set()
+        for kind in ("digest", "time", "chroot", "one of tomorrow"):
+            self.assertEqual(self.effect("depends", "alice ALL = /bin/ls", f"{kind}: asked"), effects.NOTED)
+            meanings.add(effects.effect_of(Caution("p:1", "depends", f"{kind}: asked")).meaning)
+        self.assertEqual(len(meanings), 4)
         for name in ("linked", "sudoedit", "setenv"):
             self.assertEqual(self.effect(name, "alice ALL = /bin/ls"), effects.COMMANDS, name)
         self.assertEqual(self.effect("unknown-parameter", "alice ALL = /bin/ls"), effects.OTHER)
@@ -262,6 +352,12 @@ FAINT = """
 """
 
 
+# Returns what the commands of an answer depend on.
+DEPENDS = """
+    return [...document.querySelectorAll('#answers td[data-label="Depends on"]')].map((cell) => cell.textContent);
+"""
+
+
 @needs_jinja
 @needs_driver
 class InABrowser(Case):
@@ -295,6 +391,30 @@ class InABrowser(Case):
                 shown = browser.text("#answers")
                 for part in ("dora on h1, h2", "Listed commands as root.", "/opt/only <b>", "not /opt/never", "sudoers:47"):
                     self.assertIn(part, shown)
+
+    def test_what_depends_is_shown_in_each_place(self) -> None:
+        for width, height in ((390, 800), (1280, 900)):
+            with self.subTest(width), Browser(width, height) as browser:
+                self.open(browser, noted_page())
+                self.assertEqual(self.shown(browser), "rootRR|ann?A!?A!|bobA?A|cid?B?B|dora?L??L?")
+                label = browser.run("return document.querySelector('#heat td.all-free button').getAttribute('aria-label')")
+                self.assertIn("perhaps any command as root, without a password; it depends on a digest and the time", label)
+                self.choose(browser, "#heat td.listed button")
+                shown = browser.text("#answers")
+                for part in ("Perhaps listed commands as root", "it depends on the time.", "the most that may be so"):
+                    self.assertIn(part, shown)
+                self.assertIn("decides, where what its rule depends on is met:", shown)
+                self.assertEqual(browser.run(DEPENDS), ["", "the time"])
+                self.assertIn("perhaps, and at most that, since it depends on what is not judged", browser.text(".legend"))
+                self.open(browser, noted_page())
+                self.choose(browser, "#heat td.all:last-child button")
+                self.assertIn("through ann", browser.text("#answers"))
+                self.assertIn("This depends on a digest, the time and another root folder", browser.text("#answers"))
+                self.open(browser, noted_page())
+                self.choose(browser, "#heat td.all button")
+                self.assertNotIn("depends", browser.text("#answers"))
+                browser.element("#answer-search").send_keys("another root")
+                browser.wait("return document.querySelectorAll('#heat tbody tr').length === 2")
 
     def test_the_last_of_many_rows_shows_its_answer_in_view(self) -> None:
         users = [f"u{number}" for number in range(60)]
@@ -337,6 +457,9 @@ class InABrowser(Case):
     def test_nothing_is_wider_than_the_window(self) -> None:
         for width in (390, 600, 1100, 1101, 1280, 1920):
             with self.subTest(width), Browser(width) as browser:
+                self.open(browser, noted_page())
+                self.choose(browser, "#heat td.listed button")
+                self.assertEqual((browser.run(OVERFLOWS), browser.run(BROKEN)), ([], 0))
                 self.open(browser, full_page())
                 browser.run("for (const details of document.querySelectorAll('details')) details.open = true")
                 self.choose(browser, "#heat td.all-but button")
@@ -371,6 +494,11 @@ class InABrowser(Case):
             self.open(browser, example_page())
             self.assertLessEqual(len(browser.printed(self.path("page.pdf"))), 4)
             self.assertEqual(clipped(self.path("page.pdf")), [])
+            self.open(browser, noted_page())
+            noted = "\n".join(browser.printed(self.path("page.pdf")))
+            self.assertEqual(clipped(self.path("page.pdf")), [])
+            for part in ("?A!", "perhaps any command as root,", "if met: a digest and the time", "Depends on"):
+                self.assertIn(part, noted)
             self.open(browser, full_page())
             browser.run("for (const details of document.querySelectorAll('details')) details.open = true")
             text = "\n".join(browser.printed(self.path("page.pdf")))

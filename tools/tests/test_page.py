@@ -9,15 +9,18 @@ from browsing import browsed
 from support import EXAMPLES, Case, needs_browser, needs_jinja, needs_program
 from kulavemia import evidence
 from kulavemia.answers import Answer, Verdict
+from kulavemia.compare import CHANGE_HEADER
 from kulavemia.command import Fault
 from kulavemia.effects import Effect
 from kulavemia.grants import Grants
 from kulavemia.messages import AS_EDIT, MAY_BE_EDIT
+from kulavemia.numbering import Numbering
 from kulavemia.page import Caution, Inputs, Page, Subject, as_json, rendered
 from kulavemia.page import write as write_page
+from kulavemia.probes import Probes
 from kulavemia.record import record_of
 from kulavemia.requests import LOG_KEY, Request, Writer
-from kulavemia.review import COMPARE, HEADERS
+from kulavemia.review import COMPARE, HEADERS, RULES
 from kulavemia.roots import Roots
 from kulavemia.sorting import Tally
 from kulavemia.sums import File
@@ -100,6 +103,10 @@ class Requests(unittest.TestCase):
             ("allow", "nomatch", 1, 0),
             ("allow", "allow", 1, 0),
             ("nomatch", "deny", 0, 1),
+            ("depends", "allow", 1, 0),
+            # Either way may be allowed: nobody would be denied for sure.
+            ("nomatch", "depends", 0, 0),
+            ("depends", "deny", 0, 0),
         ):
             uses = Uses()
             first, second = asked("accepted", plain, place="p:1"), asked("accepted", edit, "sudoedit", place="p:2")
@@ -210,10 +217,73 @@ class Made(Case):
         self.has(rendered(page), "Nothing: both policies answer every command alike.")
         self.has(" ".join(page.sentences()), "every command is answered as it was, to each known user on each known host.")
 
-    def test_a_comparison_that_was_given_up_is_told(self) -> None:
-        page = Page(Inputs("t", is_uncompared=True))
-        self.has(rendered(page), "The two policies were not compared for every command")
-        self.has(" ".join(page.sentences()), "was not compared for every command: that would take too long.")
+    def test_a_comparison_that_was_not_made_is_told(self) -> None:
+        page = Page(Inputs("t", uncompared="that takes more than 10 minutes <b>"))
+        text = rendered(page)
+        self.has(text, "<strong>What changes was not judged for every command</strong>: that takes more than 10 minutes &lt;b")
+        self.assertFalse("Nothing: both policies" in text)
+        self.assertEqual(record_of(page)["uncompared"], "that takes more than 10 minutes <b>")
+        said = "What changes since the policy before was not judged for every command: that takes more than 10 minutes <b>."
+        self.assertEqual(page.sentences(), [said])
+
+    def test_many_lines_that_depend_stand_together(self) -> None:
+        page = Page(Inputs("t", rows=5))
+        page.cautions = [Caution("p:1", "case", "a name", "Ann ALL = ALL", Effect("who", "May differ."))]
+        noted = Effect("noted", "Meant.")
+        page.cautions += [Caution(f"p:{at}", "depends", "time: <b>", f"rule {at}", noted) for at in range(2, 10)]
+        page.cautions.append(Caution("p:10", "depends", "digest: x", "rule 10", Effect("noted", "Meant too.")))
+        text = rendered(page)
+        self.has(text, "What sudo reads otherwise: 10")
+        self.has(text, "<summary>8 lines</summary>")
+        self.assertEqual((text.count("Meant."), text.count("Meant too."), text.count("May differ.")), (1, 1, 1))
+        self.assertEqual([at for at in range(2, 11) if f"<code>rule {at}</code>" in text], [2, 3, 4, 5, 6, 10])
+        self.has(text, "<p>and 3 more</p>")
+        # How the program takes it in its other tables is not what this page does.
+        self.has(text, "<strong>depends</strong>: time</td>")
+        self.assertEqual(len(record_of(page)["cautions"]), 10)
+
+    def test_changes_that_are_not_settled(self) -> None:
+        header = ",".join(CHANGE_HEADER) + "\n"
+        rows = "may,s,1,jen,h,root,,/bin/x,,depends,depends,,,p:1,p:1\n"
+        page = Page(Inputs("t", changes=self.write("c.csv", header + rows)))
+        self.has(rendered(page), "May change: 1</h3>")
+        self.has(" ".join(page.sentences()), "none is known to gain or lose anything. For one of the requests")
+        self.assertEqual(record_of(page)["changes"]["may"], 1)
+        rows = "gained,s,1,jen,h,root,,/bin/x,,nomatch,depends,,,,p:1\n"
+        page = Page(Inputs("t", changes=self.write("c.csv", header + rows)))
+        self.assertFalse("May change" in rendered(page))
+        self.has(" ".join(page.sentences()), "one gains something and none loses something, one of them perhaps, by rules")
+
+    def test_what_rules_depend_on(self) -> None:
+        self.write("r/rules.csv", f"{','.join(HEADERS[RULES])}\n{POLICY}:52,3,2,0,digest time\n{POLICY}:45,1,4,1,\n")
+        page = Page(Inputs("t", policy=POLICY))
+        page.inputs = page.inputs._replace(requests=self.path("r"))
+        page.uses = Uses()
+        plain, edit = asked("accepted", "depends", place=f"{POLICY}:52"), asked("accepted", "allow", "sudoedit", place="p:9")
+        page.uses.take_all([with_note(plain, MAY_BE_EDIT), with_note(edit, AS_EDIT), plain])
+        page.counts = page._counts()
+        self.assertEqual(page.depends, {f"{POLICY}:52": "digest time"})
+        text = rendered(page)
+        self.has(text, '<th scope="col">Depends on</th>')
+        self.has(text, '<td data-label="Depends on">a digest and the time</td>')
+        self.has(text, "1 allowed, 0 denied, if met")
+        self.has(text, "4 allowed, 1 denied</td>")
+        self.has(text, "<strong>depends on what is not judged</strong>")
+        rules = {rule["place"]: rule for rule in record_of(page)["rules"]}
+        self.assertEqual([rules[f"{POLICY}:{line}"]["depends"] for line in (45, 52)], ["", "digest time"])
+        # A table of an earlier version has no such column.
+        self.write("r/rules.csv", f"place,commands,allowed,denied\n{POLICY}:52,3,2,0\n")
+        page.depends, page.counts = {}, page._counts()
+        self.assertEqual((page.depends, page.counts[f"{POLICY}:52"].allowed), ({}, 1))
+        self.assertFalse('<th scope="col">Depends on' in rendered(page))
+
+    def test_probes_that_may_be_allowed_are_told_apart(self) -> None:
+        probes = Probes(Numbering())
+        for verdict in ("allow", "depends", "nomatch"):
+            request = Request("jen", "web1", "root", "", f"/bin/{verdict}", "")
+            probes.take(Answer("s", 1, request, Verdict(verdict, "p:1", ""), ("shell",)))
+        probes.take_all([])
+        self.assertEqual(probes.data()["cells"][0], [[0, "", [0]], [0, "", [1], 1]])
 
     @needs_browser
     def test_hostile_text_runs_nothing_in_a_browser(self) -> None:

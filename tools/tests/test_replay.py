@@ -16,6 +16,7 @@ from collections.abc import Iterable
 from recorded import faults_of
 from support import EXAMPLES, PROGRAM, TOOLS, Case, needs_jinja, needs_keygen, needs_program, needs_review, needs_schema
 from kulavemia import differences
+from kulavemia.command import Fault
 from kulavemia.program import Policy
 from kulavemia.review import Asked
 
@@ -25,6 +26,7 @@ Nov 20 10:03:02 web1 sudo[3]:    millert : command not allowed ; TTY=pts/0 ; PWD
 Nov 20 10:04:02 web1 sudo[4]:    guest : 3 incorrect password attempts ; TTY=pts/0 ; PWD=/ ; USER=root ; COMMAND=/usr/bin/id
 """
 USERS = ((1, "ann"), (2, "ben"), (3, "dan"), (4, "eve"), (5, "kim"))
+DIGEST = "sha224:0GomF8mNN3wlDt1HD9XldjJ3SNgpFdbjO1+NsQ=="
 PROGRAMS = "kind,command,arguments\nany command,/none/such,\nshell,/usr/bin/bash,\n"
 
 
@@ -109,8 +111,27 @@ class Replay(Case):
         stub = self.write("stub", "#!/bin/sh\nexec sleep 60\n")
         os.chmod(stub, 0o755)
         asked = Asked(stub, Policy(self.write("p", ""), self.write("u", ""), self.write("h", "")))
-        self.assertIsNone(differences.write(asked, asked, self.path("table"), 0.1))
+        with self.assertRaisesRegex(differences.Uncompared, "that takes more than 0 minutes"):
+            differences.write(asked, asked, self.path("table"), 0.1)
         self.assertFalse(os.path.exists(self.path("table")))
+
+    def test_a_comparison_that_the_program_refuses(self) -> None:
+        files = [self.write(f"{folder}/etc/sudoers", "") for folder in ("old", "new")]
+        for said, reason in (
+            ("new/etc/sudoers:3: unsupported digest", "another root (sudo_review: /etc/sudoers:3: unsupported digest)"),
+            ("old/etc/sudoers:3: unsupported option", "(sudo_review: /etc/sudoers:3: unsupported option, in the policy before)"),
+            ("new/etc/sudoers:3: unsupported list", ""),
+            ("new/etc/sudoers:3:1: syntax error, expected =", ""),
+        ):
+            place = self.path(said.partition(":")[0])
+            stub = self.write("stub", f"#!/bin/sh\necho 'sudo_review: {place}:{said.partition(':')[2]}' >&2\nexit 1\n")
+            os.chmod(stub, 0o755)
+            roots = [file.removesuffix("/etc/sudoers") for file in files]
+            old, new = (Asked(stub, Policy(file, file, file, root)) for file, root in zip(files, roots))
+            with self.assertRaises(differences.Uncompared if reason else Fault) as raised:
+                differences.write(old, new, self.path("table"))
+            self.assertTrue(str(raised.exception).endswith(reason), raised.exception)
+            self.assertFalse(os.path.exists(self.path("table")))
 
     def test_what_sudo_reads_otherwise_may_change_too(self) -> None:
         self.write("d/users.csv", "user,uid,groups\nroot,0,root:0\nann,1,ann:1\nkim,2,kim:2\n")
@@ -279,6 +300,105 @@ class Replay(Case):
             self.assertEqual(f"{marks['ann']} {marks['kim']}", wanted, line)
         page = self.read("out", "page.html")
         self.assertTrue("What sudo reads otherwise: 2" in page)
+
+    def test_what_depends_is_not_sure(self) -> None:
+        self.write("d/users.csv", "user,uid,groups\nroot,0,root:0\n" + "".join(f"{user},{at},staff:50\n" for at, user in USERS))
+        self.write("d/hosts.csv", "host,interfaces\nweb1,\n")
+        rules = (
+            f"ann ALL = {DIGEST} ALL",
+            "ben ALL = NOTAFTER=20270101000000Z NOPASSWD: ALL",
+            "dan ALL = (ben) CHROOT=/srv ALL",
+            "eve ALL = ALL",
+            f"eve ALL = (kim) {DIGEST} /opt/x",
+        )
+        wanted = {"ann": "?A", "ben": "?A!", "dan": "?A", "eve": "A", "kim": "·", "root": "R"}
+        self.assertEqual(self.marks(rules), wanted)
+        record = json.loads(self.read("out", "review.json"))
+        said = " ".join(record["sentences"])
+        for part in (
+            "Four users can run any command as root on web1, one of them without a password, three of them perhaps: ",
+            "Of these, one gets there through another user or group: dan.",
+            "For one of these it depends on a digest, which is not judged: ann.",
+            "For two of these it depends on the time, which is not judged: ben and dan.",
+            "For one of these it depends on another root folder, which is not judged: dan.",
+            "The other known user has no way to root by sudo on web1, whatever command is asked for and whether what rules"
+            " depend on is met or not: that is proved.",
+            "What rules depend on is not judged (a digest, the time and another root folder): an answer",
+        ):
+            self.assertIn(part, said)
+        self.assertNotIn("sudo reads or judges", said)
+        depends = {row["users"][0]: row["depends"] for row in record["roots"]["reached"]}
+        self.assertEqual([depends[user] for user in ("dan", "eve")], [["time", "chroot"], []])
+        self.assertEqual([rule["depends"] for rule in record["rules"]], ["", "digest", "time", "chroot", "", "digest"])
+        page = self.read("out", "page.html")
+        self.assertTrue("perhaps any command as root; it depends on the time and another root folder" in page)
+        self.assertTrue('<td data-label="Depends on">another root folder</td>' in page)
+
+    def test_notes_of_hostile_text(self) -> None:
+        self.write("d/users.csv", "user,uid,groups\nroot,0,root:0\nann,1,ann:1\n")
+        self.write("d/hosts.csv", "host,interfaces\nweb1,\n")
+        marked, long = "/x&lt;script&gt;{{7*7}}", "/" + "very-long/" * 2000
+        # A command of a policy that stands for a note of its own is one too.
+        for rule in (f"ann ALL = CHROOT={marked} /opt/x", f"ann ALL = CHROOT={long} /opt/x", "ann ALL = /d[z-a], /opt/x"):
+            shutil.rmtree(self.path("out"), ignore_errors=True)
+            self.assertEqual(self.marks([rule]), {"ann": "?L", "root": "R"}, rule[:80])
+            page = self.read("out", "page.html")
+            self.assertTrue(html.escape(rule) in page and ">49<" not in page)
+        for value in ("<b>x</b>", "2027010100;", "99999999999999999999"):
+            self.write("policy", f"root ALL = ALL\nann ALL = NOTAFTER={value} /opt/x\n")
+            words = ("--out", "other", "--policy", "policy", "--directory", "d", "--no-probe")
+            self.assertIn("sudo_review: policy:2: unsupported option\n", self.run_tool("replay", *words, status=5)[1])
+            shutil.rmtree(self.path("other"))
+
+    @needs_schema
+    def test_requests_that_depend_are_not_judged(self) -> None:
+        self.write("d/users.csv", "user,uid,groups\nroot,0,root:0\nann,1,ann:1\nben,2,ben:2\n")
+        self.write("d/hosts.csv", "host,interfaces\nweb1,\n")
+        log = "Nov 20 10:01:0{} web1 sudo[1]: {} : TTY=pts/0 ; PWD=/ ; USER=root ; COMMAND=/opt/{}\n"
+        asked = (("ann", "x"), ("ann", "y"), ("ben", "x"), ("ben", "x"))
+        self.write("auth.log", "".join(log.format(at, *request) for at, request in enumerate(asked)))
+        rules = f"ann ALL = {DIGEST} /opt/x\nann ALL = /opt/y\nben ALL = /opt/x\nben ALL = NOTBEFORE=20260101000000Z !/opt/x\n"
+        self.write("policy", rules)
+        words = ("--policy", "policy", "--directory", "d", "--no-probe")
+        self.replay(*words, domain="")
+        table = ["place,commands,allowed,denied,depends", "policy:1,1,1,0,digest", "policy:2,1,1,0,", "policy:3,1,0,0,"]
+        self.assertEqual(self.rows("out", "requests", "rules.csv"), [*table, "policy:4,1,0,2,time"])
+        record = json.loads(self.read("out", "review.json"))
+        self.assertEqual(faults_of(record), [])
+        found = record["requests"]
+        self.assertEqual([found["same"], found["denied"]["count"], found["unknown"]["count"]], [1, 0, 3])
+        page = self.read("out", "page.html")
+        for part in ("depends on what is not judged</strong>: the time", "0 allowed, 2 denied, if met", "Not judged: 3"):
+            self.assertTrue(part in page, part)
+
+    @needs_schema
+    def test_a_change_of_what_depends_is_not_settled(self) -> None:
+        self.write("d/users.csv", "user,uid,groups\nroot,0,root:0\nann,1,ann:1\n")
+        self.write("d/hosts.csv", "host,interfaces\nweb1,\n")
+        self.write("auth.log", "Nov 20 10:01:02 web1 sudo[1]: ann : TTY=pts/0 ; PWD=/ ; USER=root ; COMMAND=/opt/x\n")
+        old, new = f"root ALL = ALL\nann ALL = {DIGEST} /opt/x\n", "root ALL = ALL\nann ALL = NOTAFTER=2030010100 /opt/x\n"
+        for name, text in (("old", old), ("new", new)):
+            self.write(f"{name}/etc/sudoers", text)
+        words = ("--tree", "new", "--old-tree", "old", "--directory", "d", "--no-probe")
+        out, err = self.replay(*words, status=1, domain="")
+        self.assertIn("changes: 0 gained, 0 gained and lost, 0 lost, 0 other, 1 may\n", out)
+        self.assertNotIn("differences:", out)
+        reason = "(sudo_review: /etc/sudoers:2: unsupported digest, in the policy before)"
+        self.assertIn("replay: warning: the policies are not compared for every command: sudo_review compare refuses", err)
+        self.assertIn(f"{reason}\n", err)
+        self.assertFalse(os.path.exists(self.path("out", "differences.csv")))
+        record = json.loads(self.read("out", "review.json"))
+        self.assertEqual(faults_of(record), [])
+        self.assertTrue(record["uncompared"].endswith(reason))
+        said = " ".join(record["sentences"])
+        self.assertIn(f"not judged for every command: {record['uncompared']}.", said)
+        self.assertIn("none is known to gain or lose anything.", said)
+        self.assertIn("Only one of the two policies has two constructs", said)
+        page = self.read("out", "page.html")
+        self.assertTrue("What changes was not judged for every command" in page and "May change: 1" in page)
+        self.assertFalse("Nothing: both policies" in page or self.folder in page)
+        # A further run says the same.
+        self.assertEqual(self.replay(*words, status=1, domain=""), (out, err))
 
     def marks(self, rules: Iterable[str]) -> dict[str, str]:
         """Returns the mark of each user on the only host, under rules and that for root."""

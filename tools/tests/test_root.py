@@ -120,7 +120,7 @@ class Root(Reviewed):
         for command, row in (
             ("grants", "/etc/sudoers.d/alice:1,alice,ALL,,,ALL,,"),
             ("roots", "alice,web1,root,all,own,/etc/sudoers.d/alice:1,,,"),
-            ("rules", "/etc/sudoers.d/alice:1,1,1,0"),
+            ("rules", "/etc/sudoers.d/alice:1,1,1,0,"),
             ("report", "s,1,alice,web1,,,/bin/ls,,allow,/etc/sudoers.d/alice:1,SETENV,"),
         ):
             with self.subTest(command):

@@ -1,13 +1,14 @@
-"""The answer of `sudo_audit check` on a file, read back from its output and its exit status."""
+"""The answer of `check` on a file, of `sudo_audit` or `sudo_review`, read back from its output and its exit status."""
 
 import os
 import re
 import subprocess
-from dataclasses import dataclass
+from dataclasses import dataclass, replace
 
 from kulavemia import foreign, limits
 from kulavemia.command import Fault, as_word
 from kulavemia.effects import CLASSES
+from kulavemia.program import NAME, REVIEW
 
 ERROR, WARNING, NOTE = "error", "warning", "note"
 CAUTION = "caution"
@@ -40,6 +41,7 @@ RULES = {
     "no-answer": "The program gave no answer that can be read.",
     CAUTION: "sudo reads or judges this construct otherwise.",
     **{f"{CAUTION}-{name}": f"sudo reads or judges a construct of the class {name} otherwise." for name in CLASSES},
+    f"{CAUTION}-depends": "For sudo a digest, the time or another root decides too, which is not judged.",
 }
 
 COLUMN_TEXT = re.compile(
@@ -53,6 +55,8 @@ MISSING_TEXT = re.compile(r"(?P<path>.+?):(?P<line>[0-9]+): (?P<text>missing .+)
 LENGTH_TEXT = re.compile(r"(?P<path>.+): (?P<text>text too long)", re.DOTALL)
 READ_TEXT = re.compile(r"(?P<text>cannot read) (?P<path>.+)", re.DOTALL)
 FAULT_TEXTS = (COLUMN_TEXT, LINE_TEXT, LENGTH_TEXT, READ_TEXT, MISSING_TEXT)
+# The lines of a refusal; a path may have any text, but a hint is one line, the last.
+COMPLAINT = re.compile(rf"(?P<program>{NAME}|{REVIEW}): (?P<text>.*?)(?:\n{REVIEW}: hint: [^\n]*)?\n?", re.DOTALL)
 
 FINDING = re.compile(
     r"(?P<path>[^\n].*?):(?P<line>[0-9]+): (?P<severity>error|warning): (?P<text>"
@@ -62,7 +66,7 @@ FINDING = re.compile(
 
 @dataclass(frozen=True)
 class Finding:
-    """One thing that the program says of a policy, with its place as the program names it."""
+    """One thing that a program says of a policy, with its place as the program names it."""
 
     path: str
     line: int | None
@@ -70,6 +74,7 @@ class Finding:
     severity: str
     rule: str
     text: str
+    program: str = NAME
 
 
 @dataclass(frozen=True)
@@ -95,14 +100,14 @@ def rule_of(text: str) -> str:
     return "missing-file" if text.startswith("missing ") else "unsupported"
 
 
-def fault_of(text: str) -> Finding | None:
-    """Returns the finding of a fault's line without its `sudo_audit: `, or None where it is no line that is known."""
+def fault_of(text: str, program: str = NAME) -> Finding | None:
+    """Returns the finding of a fault's line without the program before it, or None where it is no line that is known."""
     for form in FAULT_TEXTS:
         match = form.fullmatch(text)
         if match:
             parts = match.groupdict()
             return Finding(parts["path"], number(parts.get("line")), number(parts.get("column")), ERROR,
-                           rule_of(parts["text"]), parts["text"])
+                           rule_of(parts["text"]), parts["text"], program)
     return None
 
 
@@ -123,10 +128,11 @@ def no_answer(path: str, words: str) -> Report:
 
 def fault_report(path: str, status: int, complaint: str) -> Report:
     """Returns the report of a run that printed nothing but a fault."""
-    text = complaint.removesuffix("\n")
-    fault = fault_of(text.removeprefix("sudo_audit: ")) if text.startswith("sudo_audit: ") else None
+    match = COMPLAINT.fullmatch(complaint)
+    fault = fault_of(match["text"], match["program"]) if match else None
     if fault is None or status not in (REFUSED, FAILED):
-        return no_answer(path, f"status {status}: {text}")
+        said = complaint.removesuffix("\n")
+        return no_answer(path, f"status {status}: {said}")
     return Report(path, status, (fault,))
 
 
@@ -155,12 +161,17 @@ def check(program: str, path: str) -> Report:
 
 
 def check_by_both(program: str, review: str, path: str) -> Report:
-    """Returns the report of `check` on a file: of the second program, if it is there and reads what the first one refuses."""
+    """Returns the report of `check` on a file: of the second program, if it is there and reads further than the first one."""
     found = check(program, path)
     if not review or found.status != REFUSED:
         return found
     other = check(review, path)
-    return found if other.status == FAILED else other
+    return found if other.status == FAILED or _is_same(found, other) else other
+
+
+def _is_same(one: Report, other: Report) -> bool:
+    """Returns whether two programs say the same of a file."""
+    return one == replace(other, findings=tuple(replace(finding, program=NAME) for finding in other.findings))
 
 
 def _want_file(path: str) -> None:

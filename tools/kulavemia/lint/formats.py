@@ -70,7 +70,7 @@ def text_lines(item: Located) -> list[str]:
         lines += picture(item.place.source, item.place.line, item.place.column)
     if item.is_moved:
         place = place_text(finding.path, finding.line, finding.column)
-        lines.append(f"      = sudo_audit: {place}: {visible(finding.text)}")
+        lines.append(f"      = {finding.program}: {place}: {visible(finding.text)}")
     return lines
 
 

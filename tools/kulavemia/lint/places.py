@@ -1,6 +1,6 @@
 """Findings with their physical places, behind joined lines.
 
-`sudo_audit` names a place by the number of the physical line where a logical line begins, and by 1 plus the byte
+The program names a place by the number of the physical line where a logical line begins, and by 1 plus the byte
 offset in the joined text. An editor wants the physical line and column.
 """
 

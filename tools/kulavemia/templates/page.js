@@ -103,7 +103,7 @@
   const placeText = (place) => (place < 0 ? "" : data.places[place].join(" "));
   const cellText = cells.map(([, mark, meaning, ways, rests]) => {
     const parts = [mark, meaning];
-    for (const [target, level, password, place, tags, via] of ways) parts.push(target, level, password, placeText(place), tags, via);
+    for (const [target, level, password, place, ...rest] of ways) parts.push(target, level, password, placeText(place), ...rest);
     for (const at of rests) {
       const [place, ...rest] = grants[at];
       parts.push(placeText(place), ...rest);
@@ -368,7 +368,7 @@
     return rule;
   };
 
-  const wayText = ([target, level, password, place, tags, via]) => {
+  const wayText = ([target, level, password, place, tags, via, depends]) => {
     const line = make("p");
     if (level === "root") {
       line.append(make("bdi", target), " has the ID 0.");
@@ -377,6 +377,12 @@
     line.append("As ", make("bdi", target), `: ${PASSWORDS[password] || password}`);
     if (via) line.append("; through ", make("bdi", via));
     if (place >= 0) line.append(via ? ". The first step is by " : ". By ", ruleOf(place));
+    return depends ? noted(line, depends) : line;
+  };
+
+  // A way of which it is not judged whether it is there: it is the most that may be so.
+  const noted = (line, depends) => {
+    line.append(make("br"), `This depends on ${depends}, which is not judged: it is the most that may be so, and the least that may be asked.`);
     return line;
   };
 
@@ -384,11 +390,12 @@
   const grantParts = (rests) => {
     const table = make("table", undefined, "rows");
     const head = make("tr");
-    for (const text of ["Command", "As", "Tags", "Rule"]) head.append(make("th", text));
+    const depend = rests.some((at) => grants[at].length > 5);
+    for (const text of ["Command", "As", "Tags", ...(depend ? ["Depends on"] : []), "Rule"]) head.append(make("th", text));
     table.createTHead().append(head);
     const body = table.createTBody();
     for (const at of rests.slice(0, GRANTS_SHOWN)) {
-      const [place, runas, sign, command, tags] = grants[at];
+      const [place, runas, sign, command, tags, depends] = grants[at];
       const row = make("tr");
       const cell = (label, ...content) => {
         const made = make("td");
@@ -398,10 +405,13 @@
       };
       const what = [make("code", command)];
       if (sign) what.unshift(make("strong", "not "));
-      row.append(cell("Command", ...what), cell("As", runas || "(root)"), cell("Tags", tags), cell("Rule", linkOf(place)));
+      row.append(cell("Command", ...what), cell("As", runas || "(root)"), cell("Tags", tags));
+      if (depend) row.append(cell("Depends on", depends || ""));
+      row.append(cell("Rule", linkOf(place)));
       body.append(row);
     }
-    const parts = [make("p", "The commands there, in the policy's order; the last that fits the target and the command decides:"), table];
+    const met = depend ? ", where what its rule depends on is met" : "";
+    const parts = [make("p", `The commands there, in the policy's order; the last that fits the target and the command decides${met}:`), table];
     if (rests.length > GRANTS_SHOWN) parts.push(make("p", `${number(rests.length - GRANTS_SHOWN)} more are in review/grants.csv.`));
     return parts;
   };
@@ -422,14 +432,16 @@
       }
       left -= runs[i + 1];
     }
-    const allowed = found.flatMap(([, , which]) => which);
-    if (!allowed.length) return [];
+    const allowed = found.filter(([, , , may]) => !may).flatMap(([, , which]) => which);
+    const perhaps = found.filter(([, , , may]) => may).flatMap(([, , which]) => which);
+    if (!allowed.length && !perhaps.length) return [];
     const details = make("details");
-    details.append(make("summary", `For illustration: of a list of programs that give a shell or as much, ${number(allowed.length)} of ${number(programs.length)} are allowed as root`));
-    for (const program of allowed) {
+    const more = perhaps.length ? `, and ${number(perhaps.length)} may be: that depends on what is not judged` : "";
+    details.append(make("summary", `For illustration: of a list of programs that give a shell or as much, ${number(allowed.length)} of ${number(programs.length)} are allowed as root${more}`));
+    for (const program of [...allowed, ...perhaps]) {
       const [kind, command, rest] = programs[program];
       const line = make("div");
-      line.append(make("code", rest ? `${command} ${rest}` : command), ` (${kind})`);
+      line.append(make("code", rest ? `${command} ${rest}` : command), ` (${kind}${perhaps.includes(program) ? ", depends" : ""})`);
       details.append(line);
     }
     return [details];
