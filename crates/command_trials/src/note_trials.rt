@@ -22,9 +22,9 @@ fn notes_are_named_one_by_one(rt: HostRuntime) -> Result<(), Fail> {
     let shown = cautions_shown(alloc, &mut Shelf { items: &LINES }, out)?;
     assert_eq!(rt;
         shown.as_str(),
-        "5 p:2: caution: depends: digest: sudo asks for it too: taken as met here;\
-        p:1: caution: depends: time: sudo asks for it too: taken as met here;\
-        p:2: caution: depends: chroot: sudo asks for it too: taken as met here;cautions: 3;"
+        "5 p:2: caution: depends: digest: sudo asks for it too: not judged here;\
+        p:1: caution: depends: time: sudo asks for it too: not judged here;\
+        p:2: caution: depends: chroot: sudo asks for it too: not judged here;cautions: 3;"
     );
     Ok(())
 }
@@ -38,7 +38,7 @@ fn notes_have_no_other_caution(rt: HostRuntime) -> Result<(), Fail> {
         shown.as_str(),
         "5 p:1: caution: linked: a command is below a folder that is a link on most machines: \
         two paths here, for sudo one file;\
-        p:1: caution: depends: digest: sudo asks for it too: taken as met here;cautions: 2;"
+        p:1: caution: depends: digest: sudo asks for it too: not judged here;cautions: 2;"
     );
     Ok(())
 }

@@ -76,4 +76,4 @@ class_text Reserved =
     codes "an alias has the name of an option, or of a tag before a colon: read here, reserved for sudo, which refuses the line"
 class_text Arguments =
     codes "arguments stand behind a folder, begin with ^, or one is = alone: arguments here, mostly refused by sudo"
-class_text Depends = codes "sudo asks for it too: taken as met here"
+class_text Depends = codes "sudo asks for it too: not judged here"

@@ -160,7 +160,7 @@ impl CautionClass {
             CautionClass::Arguments => {
                 b"arguments stand behind a folder, begin with ^, or one is = alone: arguments here, mostly refused by sudo"
             }
-            CautionClass::Depends => b"sudo asks for it too: taken as met here",
+            CautionClass::Depends => b"sudo asks for it too: not judged here",
         }
     }
 }

@@ -180,21 +180,28 @@ module _ (p : Policy) (q : Question) (c x : List ℕ) (f : Grant → Bool) (fail
       Says (fold (after_one p) l (filter (grant_stands p q) gs)) (fold (after_marks p) m (filter (grant_stands p q) gs))
       (allows_last (last_that f gs) b)
   says [] l m b s = s
-  says (g ∷ gs) l m b s = go (grant_stands p q g) refl
+  says (g ∷ gs) l m b s =
+      go (grant_stands p q g) refl
+      (λ stands. says gs (after_one p l g) (after_marks p m g) (cond (f g) (sign g) b) (step g l m b stands s))
+      (says gs l m b s)
     where
       go : (k : Bool) → grant_stands p q g ≡ k
+          → (grant_stands p q g ≡ true → Says (fold (after_one p) (after_one p l g) (filter (grant_stands p q) gs))
+          (fold (after_marks p) (after_marks p m g) (filter (grant_stands p q) gs))
+          (allows_last (last_that f gs) (cond (f g) (sign g) b)))
+          → Says (fold (after_one p) l (filter (grant_stands p q) gs)) (fold (after_marks p) m (filter (grant_stands p q) gs))
+          (allows_last (last_that f gs) b)
           → Says (fold (after_one p) l (cond k (g ∷ filter (grant_stands p q) gs) (filter (grant_stands p q) gs)))
           (fold (after_marks p) m (cond k (g ∷ filter (grant_stands p q) gs) (filter (grant_stands p q) gs)))
           (allows_last (option_or (last_that f gs) (cond (f g) (Some g) None)) b)
-      go true is =
+      go true is more same =
           subst (Says (fold (after_one p) (after_one p l g) (filter (grant_stands p q) gs))
           (fold (after_marks p) (after_marks p m g) (filter (grant_stands p q) gs)))
-          (one_more (last_that f gs) (f g) b g)
-          (says gs (after_one p l g) (after_marks p m g) (cond (f g) (sign g) b) (step g l m b is s))
-      go false is =
+          (one_more (last_that f gs) (f g) b g) (more is)
+      go false is more same =
           subst (Says (fold (after_one p) l (filter (grant_stands p q) gs)) (fold (after_marks p) m (filter (grant_stands p q) gs)))
           (ap (λ d. allows_last (last_that f gs) (cond d (sign g) b)) (sym (unheld p q c x f fails g is)) ∙ one_more (last_that f gs) (f g) b g)
-          (says gs l m b s)
+          same
 
   pub level_says : Says (level_of p (target_rows p q)) (marks_of p (target_rows p q)) (allowed (verdict_where p f))
   level_says =

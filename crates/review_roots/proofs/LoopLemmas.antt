@@ -141,8 +141,8 @@ chain-marks found index at next chain new so_far after d k e inside also is more
 
 pub chain-marked :
     (found : List Found) (index at : ℕ) (chain : List State) (marks : Marks) (d : Found) → at < length found →
-    MarksSoFar found index at chain marks → HasMarks found index chain marks
-chain-marked found index at chain marks d inside so_far =
+    (get_or found at d).next ≡ None → MarksSoFar found index at chain marks → HasMarks found index chain marks
+chain-marked found index at chain marks d inside is so_far =
     marks-all found index at chain marks (get_or found at d) (there found at d inside) so_far
 
 pub chain-row :

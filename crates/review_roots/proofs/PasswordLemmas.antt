@@ -124,22 +124,29 @@ module _ (p : Policy) (q : Question) (c x : List ℕ) (f : Grant → Bool) (fail
       SaysFree (fold (after_free p) free (filter (grant_stands p q) gs)) (fold (after_marks p) m (filter (grant_stands p q) gs))
       (free_last (last_that f gs) b)
   free-says [] free m b s = s
-  free-says (g ∷ gs) free m b s = go (grant_stands p q g) refl
+  free-says (g ∷ gs) free m b s =
+      go (grant_stands p q g) refl
+      (λ stands. free-says gs (after_free p free g) (after_marks p m g) (cond (f g) (freely g) b) (free-step g free m b stands s))
+      (free-says gs free m b s)
     where
       go : (k : Bool) → grant_stands p q g ≡ k
+          → (grant_stands p q g ≡ true → SaysFree (fold (after_free p) (after_free p free g) (filter (grant_stands p q) gs))
+          (fold (after_marks p) (after_marks p m g) (filter (grant_stands p q) gs))
+          (free_last (last_that f gs) (cond (f g) (freely g) b)))
+          → SaysFree (fold (after_free p) free (filter (grant_stands p q) gs)) (fold (after_marks p) m (filter (grant_stands p q) gs))
+          (free_last (last_that f gs) b)
           → SaysFree (fold (after_free p) free (cond k (g ∷ filter (grant_stands p q) gs) (filter (grant_stands p q) gs)))
           (fold (after_marks p) m (cond k (g ∷ filter (grant_stands p q) gs) (filter (grant_stands p q) gs)))
           (free_last (option_or (last_that f gs) (cond (f g) (Some g) None)) b)
-      go true is =
+      go true is more same =
           subst (SaysFree (fold (after_free p) (after_free p free g) (filter (grant_stands p q) gs))
           (fold (after_marks p) (after_marks p m g) (filter (grant_stands p q) gs)))
-          (one_more (last_that f gs) (f g) b g)
-          (free-says gs (after_free p free g) (after_marks p m g) (cond (f g) (freely g) b) (free-step g free m b is s))
-      go false is =
+          (one_more (last_that f gs) (f g) b g) (more is)
+      go false is more same =
           subst (SaysFree (fold (after_free p) free (filter (grant_stands p q) gs)) (fold (after_marks p) m (filter (grant_stands p q) gs)))
           (ap (λ d. free_last (last_that f gs) (cond d (freely g) b)) (sym (unheld p q c x f fails g is))
           ∙ one_more (last_that f gs) (f g) b g)
-          (free-says gs free m b s)
+          same
 
   pub free_says : SaysFree (is_free p (target_rows p q)) (marks_of p (target_rows p q)) (freely_allowed (verdict_where p f))
   free_says =
@@ -274,18 +281,22 @@ module _ (p : Policy) (q : Question) (c x : List ℕ) (f : Grant → Bool) (fail
       (gs : List Grant) (unasked b : Bool) → (unasked ≡ false → b ≡ false) →
       fold (after_unasked p) unasked (filter (grant_stands p q) gs) ≡ false → free_last (last_that f gs) b ≡ false
   asked-says [] unasked b s e = s e
-  asked-says (g ∷ gs) unasked b s e = go (grant_stands p q g) refl e
+  asked-says (g ∷ gs) unasked b s e =
+      go (grant_stands p q g) refl
+      (λ stands. asked-says gs (after_unasked p unasked g) (cond (f g) (freely g) b) (unasked-step g unasked b stands s))
+      (asked-says gs unasked b s) e
     where
       go : (k : Bool) → grant_stands p q g ≡ k
+          → (grant_stands p q g ≡ true → fold (after_unasked p) (after_unasked p unasked g) (filter (grant_stands p q) gs) ≡ false
+          → free_last (last_that f gs) (cond (f g) (freely g) b) ≡ false)
+          → (fold (after_unasked p) unasked (filter (grant_stands p q) gs) ≡ false → free_last (last_that f gs) b ≡ false)
           → fold (after_unasked p) unasked (cond k (g ∷ filter (grant_stands p q) gs) (filter (grant_stands p q) gs)) ≡ false
           → free_last (option_or (last_that f gs) (cond (f g) (Some g) None)) b ≡ false
-      go true is e =
-          sym (one_more (last_that f gs) (f g) b g)
-          ∙ asked-says gs (after_unasked p unasked g) (cond (f g) (freely g) b) (unasked-step g unasked b is s) e
-      go false is e =
+      go true is more same e = sym (one_more (last_that f gs) (f g) b g) ∙ more is e
+      go false is more same e =
           sym (one_more (last_that f gs) (f g) b g)
           ∙ ap (λ d. free_last (last_that f gs) (cond d (freely g) b)) (unheld p q c x f fails g is)
-          ∙ asked-says gs unasked b s e
+          ∙ same e
 
 pub asked_always : AskedAlways
 asked_always p q none c x f fails =

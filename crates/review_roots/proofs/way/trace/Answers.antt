@@ -45,4 +45,4 @@ returns-clause-password c =
 pub returns-clause-marks : goal.returns-clause-marks
 returns-clause-marks c =
     chain-marked c.args.found.now c.args.index c.loop-at.at c.loop-at.chain.items c.loop-at.marks _ c.loop-at.invariant.inside
-    c.loop-at.invariant.marks
+    c.in_default.is c.loop-at.invariant.marks
