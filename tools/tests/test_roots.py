@@ -278,7 +278,7 @@ class Roots(Drawn):
             yield from (row.level, row.password, "a group" if "+" in row.via else "", "two" if " > " in row.via else "")
 
     def bounded(self, noted: Noted) -> Iterator[str]:
-        """Yields whether each row depends on a time. Fails where a row says less than is so for one choice, or is not so for each."""
+        """Yields what each row depends on. Fails where a row says less than is so for one choice, or is not so for each."""
         self.write("p", noted.whole())
         most = {(row.user, row.host): row for row in self.table("--all")}
         for text in noted.each():
@@ -294,7 +294,8 @@ class Roots(Drawn):
                     self.assertGreaterEqual(order.index(bound.level), order.index(row.level), (bound, row, text))
                     if bound.level == row.level:
                         # Of chains of a level, one with `own` is not preferred to one with `other`.
-                        self.assertLessEqual(min(2, PASSWORDS.index(bound.password)), PASSWORDS.index(row.password), (bound, row, text))
+                        least = min(2, PASSWORDS.index(bound.password))
+                        self.assertLessEqual(least, PASSWORDS.index(row.password), (bound, row, text))
                 else:
                     wanted = bound.level, min(2, PASSWORDS.index(bound.password))
                     self.assertEqual(wanted, (row.level, min(2, PASSWORDS.index(row.password))), (bound, row, text))

@@ -53,7 +53,8 @@ block_of h f signs effect is = record {
 
 -- one block more, with the signs of a command
 pub block-pushed :
-    (h : Head) (f : InForce) (signs : Vec Sign Global) (effect : Effect) (is : effect ≡ effect_of h.marks f.tags signs.items) (ws : List Signed)
+    (h : Head) (f : InForce) (signs : Vec Sign Global) (effect : Effect) (is : effect ≡ effect_of h.marks f.tags signs.items)
+    (ws : List Signed)
     (old new : List Block) →
     new ≡ old ++ block_of h f signs effect is ∷ [] →
     signs.items ≡ map sign_of ws → flat_map block_rows new ≡ flat_map block_rows old ++ map (signed_row h f) ws
@@ -147,8 +148,8 @@ command-resolved p cs i c within is all =
 
 -- one item more of a list of which each one has grants
 pub grants-more :
-    {X : Type 0} (p : Policy) (f : X → List Grant) (xs : List X) (i : ℕ) (x : X) (first old new : List Row) → i < length xs → x ≡ get_or xs i x →
-    old ≡ first ++ map (row_of p) (flat_map f (take i xs)) → new ≡ old ++ map (row_of p) (f x) →
+    {X : Type 0} (p : Policy) (f : X → List Grant) (xs : List X) (i : ℕ) (x : X) (first old new : List Row) → i < length xs →
+    x ≡ get_or xs i x → old ≡ first ++ map (row_of p) (flat_map f (take i xs)) → new ≡ old ++ map (row_of p) (f x) →
     new ≡ first ++ map (row_of p) (flat_map f (take (i + 1) xs))
 grants-more p f xs i x first old new within is so_far more =
     let A : List Grant = flat_map f (take i xs) in

@@ -1,5 +1,6 @@
 -- What a level says of the last row of which a test holds.
-use Rattle.std.proofs.Common.{◌≡◌, ◌∙◌, ℕ, Bool, true, false, not, cond, ◌&&◌, ◌||◌, List, [], ◌∷◌, Option, Some, None, refl, sym, ap, subst}
+use Rattle.std.proofs.Common.{◌≡◌, ◌∙◌, ℕ, Bool, true, false, not, cond, ◌&&◌, ◌||◌, List, [], ◌∷◌, Option, Some, None, ap, refl}
+use Rattle.std.proofs.Common.{subst, sym}
 use Rattle.std.specs.Prelude.{filter, fold, unwrap_or, option_map}
 use Rattle.std.specs.Option.{option_or}
 use Rattle.sudo_text.specs.declared.line.Place.{Place}
@@ -24,7 +25,8 @@ use Rattle.review_roots.specs.Levels.{raised, target_rows, verdict_where, with_c
 use Rattle.review_grants.proofs.RowLemmas.{last_that-filter, last_row}
 use Rattle.review_roots.proofs.GivenLemmas.{rows_for_target}
 use Rattle.review_roots.proofs.LevelSteps.{runas_same}
-use Rattle.review_roots.proofs.NoteLemmas.{grant_stands, holds-of-all, holds-of-no-note, joined-marked, note-not-all, or-false, or-true, unheld}
+use Rattle.review_roots.proofs.NoteLemmas.{grant_stands, holds-of-all, holds-of-no-note, joined-marked, note-not-all}
+use Rattle.review_roots.proofs.NoteLemmas.{or-false, or-true, unheld}
 
 -- ---- The verdict, from the rows for the target
 
@@ -149,31 +151,35 @@ note-step l m own b s = go (is_unmarked own) refl
     go false is = noted-step l m own true false false b is s
 
 module _ (p : Policy) (q : Question) (c x : List ℕ) (f : Grant → Bool) (fails : FailsByNotes p (with_command q c x) f) where
+  -- the notes of the rule of a row
+  abbrev own : Grant → Marks
+  own g = marks_at p g.place
+
   -- a row for the target
   step : (g : Grant) (l : Level) (m : Marks) (b : Bool) → grant_stands p q g ≡ true → Says l m b
       → Says (after_one p l g) (after_marks p m g) (cond (f g) (sign g) b)
   step g l m b stands s = go (is_note_grant g) refl
     where
-      plain : (k : Bool) → is_unmarked (marks_at p g.place) ≡ k
+      plain : (k : Bool) → is_unmarked (own g) ≡ k
           → Says (cond k (after_signed l g.negated (is_all g.atom)) (best l (after_signed l g.negated (is_all g.atom))))
-          (cond k (cond (is_all g.atom) unmarked m) (joined_marks m (marks_at p g.place))) (cond (f g) (not g.negated) b)
+          (cond k (cond (is_all g.atom) unmarked m) (joined_marks m (own g))) (cond (f g) (not g.negated) b)
       plain true none =
           plain-step l m g.negated (is_all g.atom) (f g) b (λ all. holds-of-all p q c x f fails g stands all none) s
-      plain false some = noted-step l m (marks_at p g.place) g.negated (is_all g.atom) (f g) b some s
+      plain false some = noted-step l m (own g) g.negated (is_all g.atom) (f g) b some s
 
       go : (k : Bool) → is_note_grant g ≡ k
-          → Says (after_row (marks_at p g.place) l (g.negated || is_note_grant g) (is_all g.atom)) (after_marks p m g) (cond (f g) (sign g) b)
+          → Says (after_row (own g) l (g.negated || is_note_grant g) (is_all g.atom)) (after_marks p m g) (cond (f g) (sign g) b)
       go false is =
-          subst (λ n. Says (after_row (marks_at p g.place) l n (is_all g.atom)) (after_marks p m g) (cond (f g) (sign g) b))
+          subst (λ n. Says (after_row (own g) l n (is_all g.atom)) (after_marks p m g) (cond (f g) (sign g) b))
           (sym (ap (λ k. g.negated || k) is ∙ or-false g.negated))
-          (plain (is_unmarked (marks_at p g.place)) refl)
+          (plain (is_unmarked (own g)) refl)
       go true is =
-          subst (λ n. Says (after_row (marks_at p g.place) l n (is_all g.atom)) (after_marks p m g) (cond (f g) (sign g) b))
+          subst (λ n. Says (after_row (own g) l n (is_all g.atom)) (after_marks p m g) (cond (f g) (sign g) b))
           (sym (ap (λ k. g.negated || k) is ∙ or-true g.negated))
-          (subst (λ a. Says (after_row (marks_at p g.place) l true a) (cond (is_unmarked (marks_at p g.place)) (cond a unmarked m) (joined_marks m (marks_at p g.place)))
+          (subst (λ a. Says (after_row (own g) l true a) (cond (is_unmarked (own g)) (cond a unmarked m) (joined_marks m (own g)))
           (cond (f g) (sign g) b)) (sym (note-not-all g.atom is))
-          (subst (λ d. Says (after_row (marks_at p g.place) l true false) (cond (is_unmarked (marks_at p g.place)) m (joined_marks m (marks_at p g.place))) (cond d (sign g) b))
-          (sym (holds-of-no-note p q c x f fails g is)) (note-step l m (marks_at p g.place) b s)))
+          (subst (λ d. Says (after_row (own g) l true false) (cond (is_unmarked (own g)) m (joined_marks m (own g))) (cond d (sign g) b))
+          (sym (holds-of-no-note p q c x f fails g is)) (note-step l m (own g) b s)))
 
   says :
       (gs : List Grant) (l : Level) (m : Marks) (b : Bool) → Says l m b →
@@ -200,7 +206,8 @@ module _ (p : Policy) (q : Question) (c x : List ℕ) (f : Grant → Bool) (fail
           (one_more (last_that f gs) (f g) b g) (more is)
       go false is more same =
           subst (Says (fold (after_one p) l (filter (grant_stands p q) gs)) (fold (after_marks p) m (filter (grant_stands p q) gs)))
-          (ap (λ d. allows_last (last_that f gs) (cond d (sign g) b)) (sym (unheld p q c x f fails g is)) ∙ one_more (last_that f gs) (f g) b g)
+          (ap (λ d. allows_last (last_that f gs) (cond d (sign g) b)) (sym (unheld p q c x f fails g is))
+          ∙ one_more (last_that f gs) (f g) b g)
           same
 
   pub level_says : Says (level_of p (target_rows p q)) (marks_of p (target_rows p q)) (allowed (verdict_where p f))

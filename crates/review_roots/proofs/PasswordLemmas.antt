@@ -25,7 +25,8 @@ use Rattle.review_roots.specs.Passwords.{after_free, after_unasked, free_after, 
 use Rattle.review_roots.specs.Passwords.{nopasswd, unasked_after, unasked_row}
 use Rattle.review_roots.specs.Passwords.{AskedAlways, FreeIsAll, FreeIsUnasked, FreeNeedsNoPassword}
 use Rattle.review_roots.proofs.GivenLemmas.{rows_for_target}
-use Rattle.review_roots.proofs.NoteLemmas.{grant_stands, holds-of-all, holds-of-no-note, joined-marked, note-not-all, or-false, or-true, unheld}
+use Rattle.review_roots.proofs.NoteLemmas.{grant_stands, holds-of-all, holds-of-no-note, joined-marked, note-not-all}
+use Rattle.review_roots.proofs.NoteLemmas.{or-false, or-true, unheld}
 
 -- SETENV, which ALL adds, is no tag of that pair
 setenv_apart : (t : Tags) → nopasswd (or_tags t (tags_named (setenv ∷ []))) ≡ nopasswd t
@@ -90,34 +91,41 @@ plain-free false true false true free b m every s none e = refl
 plain-free false true false false free b m every s none e = s none e
 
 module _ (p : Policy) (q : Question) (c x : List ℕ) (f : Grant → Bool) (fails : FailsByNotes p (with_command q c x) f) where
+  -- the notes of the rule of a row
+  abbrev own : Grant → Marks
+  own g = marks_at p g.place
+
   free-step : (g : Grant) (free : Bool) (m : Marks) (b : Bool) → grant_stands p q g ≡ true → SaysFree free m b
       → SaysFree (after_free p free g) (after_marks p m g) (cond (f g) (freely g) b)
   free-step g free m b stands s = go (is_note_grant g) refl
     where
-      plain : (k : Bool) → is_unmarked (marks_at p g.place) ≡ k
+      plain : (k : Bool) → is_unmarked (own g) ≡ k
           → SaysFree (cond k (free_after free g.negated g.tags (is_all g.atom)) (free || free_after free g.negated g.tags (is_all g.atom)))
-          (cond k (cond (is_all g.atom) unmarked m) (joined_marks m (marks_at p g.place))) (cond (f g) (freely g) b)
+          (cond k (cond (is_all g.atom) unmarked m) (joined_marks m (own g))) (cond (f g) (freely g) b)
       plain true none =
           plain-free g.negated (nopasswd g.tags) (is_all g.atom) (f g) free b m
           (λ all. holds-of-all p q c x f fails g stands all none) s
-      plain false some = λ none e. absurd (let bad = joined-marked m (marks_at p g.place) some none in cc)
+      plain false some = λ none e. absurd (let bad = joined-marked m (own g) some none in cc)
 
-      note : (k : Bool) → is_unmarked (marks_at p g.place) ≡ k → SaysFree (cond k false (free || false)) (cond k m (joined_marks m (marks_at p g.place))) b
+      note : (k : Bool) → is_unmarked (own g) ≡ k → SaysFree (cond k false (free || false)) (cond k m (joined_marks m (own g))) b
       note true none = λ none e. cc
-      note false some = λ none e. absurd (let bad = joined-marked m (marks_at p g.place) some none in cc)
+      note false some = λ none e. absurd (let bad = joined-marked m (own g) some none in cc)
 
       go : (k : Bool) → is_note_grant g ≡ k
-          → SaysFree (free_row (marks_at p g.place) free (g.negated || is_note_grant g) g.tags (is_all g.atom)) (after_marks p m g) (cond (f g) (freely g) b)
+          → SaysFree (free_row (own g) free (g.negated || is_note_grant g) g.tags (is_all g.atom)) (after_marks p m g)
+          (cond (f g) (freely g) b)
       go false is =
-          subst (λ n. SaysFree (free_row (marks_at p g.place) free n g.tags (is_all g.atom)) (after_marks p m g) (cond (f g) (freely g) b))
-          (sym (ap (λ k. g.negated || k) is ∙ or-false g.negated)) (plain (is_unmarked (marks_at p g.place)) refl)
+          subst (λ n. SaysFree (free_row (own g) free n g.tags (is_all g.atom)) (after_marks p m g) (cond (f g) (freely g) b))
+          (sym (ap (λ k. g.negated || k) is ∙ or-false g.negated)) (plain (is_unmarked (own g)) refl)
       go true is =
-          subst (λ n. SaysFree (free_row (marks_at p g.place) free n g.tags (is_all g.atom)) (after_marks p m g) (cond (f g) (freely g) b))
+          subst (λ n. SaysFree (free_row (own g) free n g.tags (is_all g.atom)) (after_marks p m g) (cond (f g) (freely g) b))
           (sym (ap (λ k. g.negated || k) is ∙ or-true g.negated))
-          (subst (λ a. SaysFree (free_row (marks_at p g.place) free true g.tags a) (cond (is_unmarked (marks_at p g.place)) (cond a unmarked m) (joined_marks m (marks_at p g.place)))
+          (subst (λ a. SaysFree (free_row (own g) free true g.tags a)
+          (cond (is_unmarked (own g)) (cond a unmarked m) (joined_marks m (own g)))
           (cond (f g) (freely g) b)) (sym (note-not-all g.atom is))
-          (subst (λ d. SaysFree (free_row (marks_at p g.place) free true g.tags false) (cond (is_unmarked (marks_at p g.place)) m (joined_marks m (marks_at p g.place))) (cond d (freely g) b))
-          (sym (holds-of-no-note p q c x f fails g is)) (note (is_unmarked (marks_at p g.place)) refl)))
+          (subst (λ d. SaysFree (free_row (own g) free true g.tags false) (cond (is_unmarked (own g)) m (joined_marks m (own g)))
+          (cond d (freely g) b))
+          (sym (holds-of-no-note p q c x f fails g is)) (note (is_unmarked (own g)) refl)))
 
   free-says :
       (gs : List Grant) (free : Bool) (m : Marks) (b : Bool) → SaysFree free m b →
@@ -246,12 +254,17 @@ noted_asked false true false true false b s e = cc
 noted_asked false false false true false b s e = refl
 
 module _ (p : Policy) (q : Question) (c x : List ℕ) (f : Grant → Bool) (fails : FailsByNotes p (with_command q c x) f) where
+  -- the notes of the rule of a row
+  abbrev own : Grant → Marks
+  own g = marks_at p g.place
+
   unasked-step : (g : Grant) (unasked b : Bool) → grant_stands p q g ≡ true → (unasked ≡ false → b ≡ false)
       → after_unasked p unasked g ≡ false → cond (f g) (freely g) b ≡ false
   unasked-step g unasked b stands s = go (is_note_grant g) refl
     where
-      plain : (k : Bool) → is_unmarked (marks_at p g.place) ≡ k
-          → cond k (unasked_after unasked g.negated g.tags (is_all g.atom)) (unasked || unasked_after unasked g.negated g.tags (is_all g.atom))
+      plain : (k : Bool) → is_unmarked (own g) ≡ k
+          → cond k (unasked_after unasked g.negated g.tags (is_all g.atom))
+          (unasked || unasked_after unasked g.negated g.tags (is_all g.atom))
           ≡ false → cond (f g) (freely g) b ≡ false
       plain true none e =
           asked_step g.negated (nopasswd g.tags) (is_all g.atom) (f g) unasked b
@@ -267,15 +280,15 @@ module _ (p : Policy) (q : Question) (c x : List ℕ) (f : Grant → Bool) (fail
           both false h = refl
 
       go : (k : Bool) → is_note_grant g ≡ k
-          → unasked_row (marks_at p g.place) unasked (g.negated || is_note_grant g) g.tags (is_all g.atom) ≡ false → cond (f g) (freely g) b ≡ false
+          → unasked_row (own g) unasked (g.negated || is_note_grant g) g.tags (is_all g.atom) ≡ false → cond (f g) (freely g) b ≡ false
       go false is e =
-          plain (is_unmarked (marks_at p g.place)) refl
-          (ap (λ n. unasked_row (marks_at p g.place) unasked n g.tags (is_all g.atom)) (sym (ap (λ k. g.negated || k) is ∙ or-false g.negated)) ∙ e)
+          plain (is_unmarked (own g)) refl
+          (ap (λ n. unasked_row (own g) unasked n g.tags (is_all g.atom)) (sym (ap (λ k. g.negated || k) is ∙ or-false g.negated)) ∙ e)
       go true is e =
           ap (λ d. cond d (freely g) b) (holds-of-no-note p q c x f fails g is)
-          ∙ note (is_unmarked (marks_at p g.place))
-          (ap (λ a. unasked_row (marks_at p g.place) unasked true g.tags a) (sym (note-not-all g.atom is))
-          ∙ ap (λ n. unasked_row (marks_at p g.place) unasked n g.tags (is_all g.atom)) (sym (ap (λ k. g.negated || k) is ∙ or-true g.negated)) ∙ e)
+          ∙ note (is_unmarked (own g))
+          (ap (λ a. unasked_row (own g) unasked true g.tags a) (sym (note-not-all g.atom is))
+          ∙ ap (λ n. unasked_row (own g) unasked n g.tags (is_all g.atom)) (sym (ap (λ k. g.negated || k) is ∙ or-true g.negated)) ∙ e)
 
   asked-says :
       (gs : List Grant) (unasked b : Bool) → (unasked ≡ false → b ≡ false) →

@@ -91,7 +91,8 @@ free-weak free false false x t is e = go (nopasswd t)
 
 -- the same of a row with these notes
 level-weak-row :
-    (marks : Marks) (least l : Level) (n a : Bool) → is_at_least least l ≡ false → (not n && (a || is_at_least least level.Listed)) ≡ false →
+    (marks : Marks) (least l : Level) (n a : Bool) → is_at_least least l ≡ false →
+    (not n && (a || is_at_least least level.Listed)) ≡ false →
     is_at_least least (after_row marks l n a) ≡ false
 level-weak-row marks least l n a weak e = go (is_unmarked marks)
   where
@@ -103,7 +104,8 @@ level-weak-row marks least l n a weak e = go (is_unmarked marks)
     go true = level-weak least l n a weak e
     go false = either (is_at_least l (after_signed l n a))
 
-free-weak-row : (marks : Marks) (free n a x : Bool) (t : Tags) → free ≡ false → (not n && (a || x)) ≡ false → free_row marks free n t a ≡ false
+free-weak-row : (marks : Marks) (free n a x : Bool) (t : Tags) → free ≡ false → (not n && (a || x)) ≡ false
+    → free_row marks free n t a ≡ false
 free-weak-row marks free n a x t is e = go (is_unmarked marks)
   where
     go : (k : Bool) → cond k (free_after free n t a) (free || free_after free n t a) ≡ false

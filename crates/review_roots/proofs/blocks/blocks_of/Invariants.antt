@@ -6,6 +6,7 @@ use Rattle.review_roots.proofs.blocks.blocks_of.Given as goal
 
 abbrev pub invariant-loop-entry : goal.invariant-loop-entry
 invariant-loop-entry l = record {
-  rows : flat_map block_rows l.blocks.items ≡ map (row_of l.checked) (flat_map (entry_grants l.checked) (take l.entry-index l.checked.entries));
+  rows : flat_map block_rows l.blocks.items ≡ map (row_of l.checked)
+      (flat_map (entry_grants l.checked) (take l.entry-index l.checked.entries));
   resolve : IsTrue (list_all (block_resolves l.checked) l.blocks.items);
 }

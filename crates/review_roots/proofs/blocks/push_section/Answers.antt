@@ -51,8 +51,8 @@ loop-spec-preserved c =
     record {
       in_force = in_force;
       rows = section-more p h f s at spec (flat_map block_rows c.args.blocks.now.items) (flat_map block_rows c.loop-spec.blocks.items)
-          (flat_map block_rows c.push_command.new.blocks.items) c.requires.hosts c.requires.marks less is in_force c.loop-spec.invariant.rows
-          c.in_ok-push_command.ensures.rows;
+          (flat_map block_rows c.push_command.new.blocks.items) c.requires.hosts c.requires.marks less is in_force
+          c.loop-spec.invariant.rows c.in_ok-push_command.ensures.rows;
       resolve = λ old. c.in_ok-push_command.ensures.resolve (in-force-resolves p h f s.commands at in_force all c.requires.users hosts)
           (c.loop-spec.invariant.resolve old);
     }
