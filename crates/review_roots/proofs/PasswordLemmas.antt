@@ -77,6 +77,10 @@ step false true true d free b every s e = ap (λ v. cond v true b) (every refl)
 step false true false true free b every s e = refl
 step false true false false free b every s e = s e
 
+-- the notes of the rule of a row
+abbrev own : Policy → Grant → Marks
+own p g = marks_at p g.place
+
 -- what is free so far says of the answer so far, where it depends on no note
 abbrev SaysFree : Bool → Marks → Bool → Type 0
 SaysFree free m b = m ≡ unmarked → free ≡ true → b ≡ true
@@ -91,41 +95,37 @@ plain-free false true false true free b m every s none e = refl
 plain-free false true false false free b m every s none e = s none e
 
 module _ (p : Policy) (q : Question) (c x : List ℕ) (f : Grant → Bool) (fails : FailsByNotes p (with_command q c x) f) where
-  -- the notes of the rule of a row
-  abbrev own : Grant → Marks
-  own g = marks_at p g.place
-
   free-step : (g : Grant) (free : Bool) (m : Marks) (b : Bool) → grant_stands p q g ≡ true → SaysFree free m b
       → SaysFree (after_free p free g) (after_marks p m g) (cond (f g) (freely g) b)
   free-step g free m b stands s = go (is_note_grant g) refl
     where
-      plain : (k : Bool) → is_unmarked (own g) ≡ k
+      plain : (k : Bool) → is_unmarked (own p g) ≡ k
           → SaysFree (cond k (free_after free g.negated g.tags (is_all g.atom)) (free || free_after free g.negated g.tags (is_all g.atom)))
-          (cond k (cond (is_all g.atom) unmarked m) (joined_marks m (own g))) (cond (f g) (freely g) b)
+          (cond k (cond (is_all g.atom) unmarked m) (joined_marks m (own p g))) (cond (f g) (freely g) b)
       plain true none =
           plain-free g.negated (nopasswd g.tags) (is_all g.atom) (f g) free b m
           (λ all. holds-of-all p q c x f fails g stands all none) s
-      plain false some = λ none e. absurd (let bad = joined-marked m (own g) some none in cc)
+      plain false some = λ none e. absurd (let bad = joined-marked m (own p g) some none in cc)
 
-      note : (k : Bool) → is_unmarked (own g) ≡ k → SaysFree (cond k false (free || false)) (cond k m (joined_marks m (own g))) b
+      note : (k : Bool) → is_unmarked (own p g) ≡ k → SaysFree (cond k false (free || false)) (cond k m (joined_marks m (own p g))) b
       note true none = λ none e. cc
-      note false some = λ none e. absurd (let bad = joined-marked m (own g) some none in cc)
+      note false some = λ none e. absurd (let bad = joined-marked m (own p g) some none in cc)
 
       go : (k : Bool) → is_note_grant g ≡ k
-          → SaysFree (free_row (own g) free (g.negated || is_note_grant g) g.tags (is_all g.atom)) (after_marks p m g)
+          → SaysFree (free_row (own p g) free (g.negated || is_note_grant g) g.tags (is_all g.atom)) (after_marks p m g)
           (cond (f g) (freely g) b)
       go false is =
-          subst (λ n. SaysFree (free_row (own g) free n g.tags (is_all g.atom)) (after_marks p m g) (cond (f g) (freely g) b))
-          (sym (ap (λ k. g.negated || k) is ∙ or-false g.negated)) (plain (is_unmarked (own g)) refl)
+          subst (λ n. SaysFree (free_row (own p g) free n g.tags (is_all g.atom)) (after_marks p m g) (cond (f g) (freely g) b))
+          (sym (ap (λ k. g.negated || k) is ∙ or-false g.negated)) (plain (is_unmarked (own p g)) refl)
       go true is =
-          subst (λ n. SaysFree (free_row (own g) free n g.tags (is_all g.atom)) (after_marks p m g) (cond (f g) (freely g) b))
+          subst (λ n. SaysFree (free_row (own p g) free n g.tags (is_all g.atom)) (after_marks p m g) (cond (f g) (freely g) b))
           (sym (ap (λ k. g.negated || k) is ∙ or-true g.negated))
-          (subst (λ a. SaysFree (free_row (own g) free true g.tags a)
-          (cond (is_unmarked (own g)) (cond a unmarked m) (joined_marks m (own g)))
+          (subst (λ a. SaysFree (free_row (own p g) free true g.tags a)
+          (cond (is_unmarked (own p g)) (cond a unmarked m) (joined_marks m (own p g)))
           (cond (f g) (freely g) b)) (sym (note-not-all g.atom is))
-          (subst (λ d. SaysFree (free_row (own g) free true g.tags false) (cond (is_unmarked (own g)) m (joined_marks m (own g)))
+          (subst (λ d. SaysFree (free_row (own p g) free true g.tags false) (cond (is_unmarked (own p g)) m (joined_marks m (own p g)))
           (cond d (freely g) b))
-          (sym (holds-of-no-note p q c x f fails g is)) (note (is_unmarked (own g)) refl)))
+          (sym (holds-of-no-note p q c x f fails g is)) (note (is_unmarked (own p g)) refl)))
 
   free-says :
       (gs : List Grant) (free : Bool) (m : Marks) (b : Bool) → SaysFree free m b →
@@ -254,15 +254,11 @@ noted_asked false true false true false b s e = cc
 noted_asked false false false true false b s e = refl
 
 module _ (p : Policy) (q : Question) (c x : List ℕ) (f : Grant → Bool) (fails : FailsByNotes p (with_command q c x) f) where
-  -- the notes of the rule of a row
-  abbrev own : Grant → Marks
-  own g = marks_at p g.place
-
   unasked-step : (g : Grant) (unasked b : Bool) → grant_stands p q g ≡ true → (unasked ≡ false → b ≡ false)
       → after_unasked p unasked g ≡ false → cond (f g) (freely g) b ≡ false
   unasked-step g unasked b stands s = go (is_note_grant g) refl
     where
-      plain : (k : Bool) → is_unmarked (own g) ≡ k
+      plain : (k : Bool) → is_unmarked (own p g) ≡ k
           → cond k (unasked_after unasked g.negated g.tags (is_all g.atom))
           (unasked || unasked_after unasked g.negated g.tags (is_all g.atom))
           ≡ false → cond (f g) (freely g) b ≡ false
@@ -280,15 +276,15 @@ module _ (p : Policy) (q : Question) (c x : List ℕ) (f : Grant → Bool) (fail
           both false h = refl
 
       go : (k : Bool) → is_note_grant g ≡ k
-          → unasked_row (own g) unasked (g.negated || is_note_grant g) g.tags (is_all g.atom) ≡ false → cond (f g) (freely g) b ≡ false
+          → unasked_row (own p g) unasked (g.negated || is_note_grant g) g.tags (is_all g.atom) ≡ false → cond (f g) (freely g) b ≡ false
       go false is e =
-          plain (is_unmarked (own g)) refl
-          (ap (λ n. unasked_row (own g) unasked n g.tags (is_all g.atom)) (sym (ap (λ k. g.negated || k) is ∙ or-false g.negated)) ∙ e)
+          plain (is_unmarked (own p g)) refl
+          (ap (λ n. unasked_row (own p g) unasked n g.tags (is_all g.atom)) (sym (ap (λ k. g.negated || k) is ∙ or-false g.negated)) ∙ e)
       go true is e =
           ap (λ d. cond d (freely g) b) (holds-of-no-note p q c x f fails g is)
-          ∙ note (is_unmarked (own g))
-          (ap (λ a. unasked_row (own g) unasked true g.tags a) (sym (note-not-all g.atom is))
-          ∙ ap (λ n. unasked_row (own g) unasked n g.tags (is_all g.atom)) (sym (ap (λ k. g.negated || k) is ∙ or-true g.negated)) ∙ e)
+          ∙ note (is_unmarked (own p g))
+          (ap (λ a. unasked_row (own p g) unasked true g.tags a) (sym (note-not-all g.atom is))
+          ∙ ap (λ n. unasked_row (own p g) unasked n g.tags (is_all g.atom)) (sym (ap (λ k. g.negated || k) is ∙ or-true g.negated)) ∙ e)
 
   asked-says :
       (gs : List Grant) (unasked b : Bool) → (unasked ≡ false → b ≡ false) →

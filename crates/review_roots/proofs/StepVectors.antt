@@ -24,6 +24,7 @@ use Rattle.sudo_verdict.specs.Tagged.{tags_named, tags_before, tags_at, runas_be
 use Rattle.sudo_verdict.specs.Values.{value}
 use Rattle.sudo_verdict.specs.RunasForms.{form_allows, runas_allows}
 use Rattle.sudo_verdict.specs.Grants.{place_grants, section_grants, grants}
+use Rattle.review_grants.specs.Depends.{unmarked}
 use Rattle.review_roots.specs.declared.given.Given.{Given}
 use Rattle.review_roots.specs.declared.level.Level.{Level}
 use Rattle.review_roots.specs.declared.level.Level.TheVariants as level
@@ -140,6 +141,38 @@ unfolding reading_within written_form user_named user_fits group_fits host_fits 
     tags_before tags_at runas_before runas_at value form_allows runas_allows place_grants section_grants grants
 steps_between = (refl, refl, refl, refl, refl, refl)
 
+-- ben ALL = (eve) NOTAFTER=2030010100 ALL, !/bin/su
+-- ben ALL = (root) NOTAFTER=2030010100 ALL
+-- ben ALL = (root) /bin/ls, !ALL
+abbrev noted : Policy
+noted = record {
+  files = [] ∷ [];
+  entries =
+      rule 1 (named (codes "ben"))
+      (spec (as_users (named (codes "eve") ∷ [])) [] (command 0 (codes "/t[z-a]")) ∷ spec None [] everything
+      ∷ spec None [] (command 1 (codes "/bin/su")) ∷ [])
+      ∷ rule 2 (named (codes "ben"))
+      (spec (as_users (named (codes "root") ∷ [])) [] (command 0 (codes "/t[z-a]")) ∷ spec None [] everything ∷ [])
+      ∷ rule 3 (named (codes "ben"))
+      (spec (as_users (named (codes "root") ∷ [])) [] (command 0 (codes "/bin/ls")) ∷ spec None [] (with_bangs 1 atom.All) ∷ [])
+      ∷ [];
+  placed = refl;
+  unfolded = refl;
+}
+
+abbrev given_noted : State → State → Given
+given_noted s t = step_given noted known web (known_groups known) s t
+
+-- su is denied at some times alone; and what stands before a denied ALL without a time does not count
+steps_noted :
+    ((given_noted ben eve).level ≡ level.All)
+    × ((given_noted ben eve).marks ≡ record { digest = false; time = true; chroot = false })
+    × ((given_noted ben root).level ≡ level.None)
+    × ((given_noted ben root).marks ≡ unmarked)
+unfolding reading_within written_form user_named user_fits group_fits host_fits tags_named
+    tags_before tags_at runas_before runas_at value form_allows runas_allows place_grants section_grants grants
+steps_noted = (refl, refl, refl, refl)
+
 -- of the known groups the rules name adm alone
 groups_named : named_groups policy known ≡ adm ∷ []
 unfolding reading_within written_form
@@ -149,7 +182,7 @@ groups_named = refl
 
 -- what a step gives that is free, that lets a command go unasked, or neither
 abbrev given_with : Bool → Bool → Given
-given_with free unasked = record { level = level.All; free = free; unasked = unasked; by = None }
+given_with free unasked = record { level = level.All; free = free; unasked = unasked; by = None; marks = unmarked }
 
 abbrev of_all : Given
 of_all = given_with true true
