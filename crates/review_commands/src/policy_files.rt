@@ -15,19 +15,18 @@ pub(crate) enum PolicyFiles<'a> {
     Below(Rooted<HostTree<'a>>),
 }
 
-/// Returns the files of a policy, with their masked texts. If `noted`, a note stands for each digest, time and root; otherwise
-/// these stay, and the reader refuses them. Returns `AllocError` if allocation failed.
+/// Returns the files of a policy, with their masked texts. A note stands for each digest, time and root. Returns `AllocError` if
+/// allocation failed.
 pub(crate) fn policy_files<'a>(
     rt: &'a HostRuntime,
     policy: PolicyPath<'_>,
-    noted: bool,
 ) -> Result<Masked<PolicyFiles<'a>>, AllocError> {
     match policy.root {
-        None => Ok(Masked::new(PolicyFiles::Machine(Disk::new(rt)), noted)),
+        None => Ok(Masked::new(PolicyFiles::Machine(Disk::new(rt)), true)),
         Some(root) => {
             let folder = Seq::from_slice(rt.alloc(), root.as_bytes())?;
             let files = Rooted::new(HostTree::new(rt), folder);
-            Ok(Masked::new(PolicyFiles::Below(files), noted))
+            Ok(Masked::new(PolicyFiles::Below(files), true))
         }
     }
 }

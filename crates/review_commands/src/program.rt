@@ -43,7 +43,7 @@ fn run_report<T: Threads + Wait + Sync>(
     let alloc = rt.alloc();
     let mut out = Device::new(rt.stdout());
     let mut err = Device::new(rt.stderr());
-    let mut files = match policy_files(rt, paths.policy, true) {
+    let mut files = match policy_files(rt, paths.policy) {
         Ok(files) => files,
         Err(refused) => return report_explained(alloc, PROGRAM, refused, &mut err),
     };
@@ -97,7 +97,7 @@ fn run_check(rt: &HostRuntime, policy: PolicyPath<'_>) -> u8 {
     let alloc = rt.alloc();
     let mut out = Device::new(rt.stdout());
     let mut err = Device::new(rt.stderr());
-    match policy_files(rt, policy, true) {
+    match policy_files(rt, policy) {
         Ok(mut files) => check_run(
             alloc,
             policy.file.as_bytes(),
@@ -119,7 +119,7 @@ fn run_cautions(
     let alloc = rt.alloc();
     let mut out = Device::new(rt.stdout());
     let mut err = Device::new(rt.stderr());
-    let mut files = match policy_files(rt, policy, true) {
+    let mut files = match policy_files(rt, policy) {
         Ok(files) => files,
         Err(refused) => return report_explained(alloc, PROGRAM, refused, &mut err),
     };
@@ -142,7 +142,7 @@ fn run_grants(rt: &HostRuntime, paths: Paths<'_>, names: ScopeNames<'_>) -> u8 {
     let alloc = rt.alloc();
     let mut out = Device::new(rt.stdout());
     let mut err = Device::new(rt.stderr());
-    let mut files = match policy_files(rt, paths.policy, true) {
+    let mut files = match policy_files(rt, paths.policy) {
         Ok(files) => files,
         Err(refused) => return report_explained(alloc, PROGRAM, refused, &mut err),
     };
@@ -173,7 +173,7 @@ fn run_who(rt: &HostRuntime, paths: Paths<'_>, sought: Sought<'_>) -> u8 {
     let alloc = rt.alloc();
     let mut out = Device::new(rt.stdout());
     let mut err = Device::new(rt.stderr());
-    let mut files = match policy_files(rt, paths.policy, true) {
+    let mut files = match policy_files(rt, paths.policy) {
         Ok(files) => files,
         Err(refused) => return report_explained(alloc, PROGRAM, refused, &mut err),
     };
@@ -204,7 +204,7 @@ fn run_roots(rt: &HostRuntime, paths: Paths<'_>, all: bool) -> u8 {
     let alloc = rt.alloc();
     let mut out = Device::new(rt.stdout());
     let mut err = Device::new(rt.stderr());
-    let mut files = match policy_files(rt, paths.policy, true) {
+    let mut files = match policy_files(rt, paths.policy) {
         Ok(files) => files,
         Err(refused) => return report_explained(alloc, PROGRAM, refused, &mut err),
     };
@@ -235,7 +235,7 @@ fn run_subjects(rt: &HostRuntime, paths: Paths<'_>) -> u8 {
     let alloc = rt.alloc();
     let mut out = Device::new(rt.stdout());
     let mut err = Device::new(rt.stderr());
-    let mut files = match policy_files(rt, paths.policy, true) {
+    let mut files = match policy_files(rt, paths.policy) {
         Ok(files) => files,
         Err(refused) => return report_explained(alloc, PROGRAM, refused, &mut err),
     };
