@@ -11,7 +11,7 @@ use Rattle.sudo_verdict.specs.Last.{last_that}
 use Rattle.sudo_verdict.specs.Values.{is_all}
 use Rattle.sudo_verdict.specs.RunasForms.{runas_allows}
 use Rattle.sudo_verdict.specs.Questions.{Question}
-use Rattle.sudo_verdict.specs.Grants.{Grant, applies, grants}
+use Rattle.sudo_verdict.specs.Grants.{Grant, grants}
 use Rattle.sudo_verdict.specs.Verdicts.{decided_by, verdict_if_any, verdict_on}
 use Rattle.review_roots.specs.declared.level.Level.{Level}
 use Rattle.review_roots.specs.declared.level.Level.TheVariants as level
@@ -19,8 +19,8 @@ use Rattle.review_grants.specs.declared.marks.Marks.{Marks}
 use Rattle.review_grants.specs.Depends.{is_note_grant, is_unmarked, joined_marks, marks_at, unmarked}
 use Rattle.review_grants.specs.Rows.{rows, row_applies}
 use Rattle.review_grants.specs.Unnoted.{FailsByNotes}
-use Rattle.review_roots.specs.Ranks.{best, is_at_least}
-use Rattle.review_roots.specs.Levels.{after_signed, after_marks, after_one, after_row, allowed, denies, level_of, lowered, marks_of}
+use Rattle.review_roots.specs.Ranks.{best}
+use Rattle.review_roots.specs.Levels.{after_signed, after_marks, after_one, after_row, allowed, level_of, lowered, marks_of}
 use Rattle.review_roots.specs.Levels.{raised, target_rows, verdict_where, with_command, AllAllowsAll, NoneAllowsNone, VerdictIsWhere}
 use Rattle.review_grants.proofs.RowLemmas.{last_that-filter, last_row}
 use Rattle.review_roots.proofs.GivenLemmas.{rows_for_target}

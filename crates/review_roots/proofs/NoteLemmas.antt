@@ -1,6 +1,6 @@
 -- Tests of grants that may fail by what is noted: they hold of rows for the target alone, of each that is ALL and has no note, and of
 -- none that stands for a note.
-use Rattle.std.proofs.Common.{◌≡◌, ◌∙◌, ℕ, Bool, true, false, not, cond, ◌&&◌, ◌||◌, List, [], ◌∷◌, ap, map, refl, sym, Option, Some, None}
+use Rattle.std.proofs.Common.{◌≡◌, ◌∙◌, ℕ, Bool, true, false, not, cond, ◌&&◌, ◌||◌, List, [], ◌∷◌, ap, map, refl, sym, Some, None}
 use Rattle.std.specs.Prelude.{find, is_some}
 use Rattle.std.specs.Str.{bytes_eq}
 use Rattle.std.proofs.lemmas.Bool.{and_parts}
@@ -18,7 +18,7 @@ use Rattle.sudo_verdict.specs.Questions.{Question}
 use Rattle.sudo_verdict.specs.Grants.{Grant, applies}
 use Rattle.review_texts.specs.declared.note.Note.{Note}
 use Rattle.review_texts.specs.declared.note.Note.TheVariants.{Digest, Time, Chroot}
-use Rattle.review_texts.specs.Notes.{note_in, note_of, note_path, notes}
+use Rattle.review_texts.specs.Notes.{note_in, note_path, notes}
 use Rattle.review_texts.proofs.NoPath.{note_fits_nothing}
 use Rattle.review_grants.specs.declared.marks.Marks.{Marks}
 use Rattle.review_grants.specs.Depends.{is_note_grant, is_noted_at, is_unmarked, joined_marks, marks_at, notes_at, unmarked}
