@@ -415,8 +415,8 @@ fn push_header(text: &mut Vec<u8>) -> Result<(), AllocError>
 ///
 /// `level` is `root` for a user with ID 0, otherwise the best level of a chain of steps: `all`, `all-but` or, with `all` of the
 /// table, `listed`. `password` says whose its steps ask for. `place` and `tags` are those of a row that allows its first step;
-/// `via` has the states between. `depends` names the notes on which its steps depend: where it is empty, the record is so; otherwise
-/// `level` is the most, and `password` the least, that may be so. Returns `AllocError` if allocation failed.
+/// `via` has the states between. `depends` names the notes on which its steps depend. Where it is empty, the record is exact;
+/// otherwise `level` is an upper bound, and `password` a lower one. Returns `AllocError` if allocation failed.
 pub(crate) fn roots_text(alloc: Global, table: RootTable<'_>) -> Result<Vec<u8>, AllocError>
     ensures { IfOk result (λ text. spec.AreRootRows table.entry.all table.entry.checked.now
         table.entry.directory.now text.items 0) }

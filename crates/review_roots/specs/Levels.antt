@@ -1,6 +1,6 @@
 -- How much the rows for a target allow, whatever the command: a fold over their signs and over which of them are ALL.
--- sudoers(5), "User Specification": where several rows match, the last one is used. What a note stands for may be met or not
--- met: of both the better level counts, so the level is the most that may be so.
+-- sudoers(5), "User Specification": where several rows match, the last one is used. A note may be met or not: the level is the
+-- better of both, an upper bound.
 use Rattle.std.specs.Prelude.{◌≡◌, ℕ, Bool, true, false, ◌||◌, if◌then◌else◌, List, filter, fold}
 use Rattle.sudo_grammar.specs.declared.policy.Policy.{Policy}
 use Rattle.sudo_match.specs.declared.request.Verdict.{Verdict}
@@ -84,21 +84,21 @@ allowed _ = false
 abbrev pub verdict_where : Policy → (Grant → Bool) → Verdict
 verdict_where p f = verdict_if_any (last_that f (grants p))
 
--- where the level is All and depends on no note, every command is allowed, whatever is met of what is noted
+-- where the level is All and depends on no note, every command is allowed, whichever notes are met
 abbrev pub AllAllowsAll : Type 0
 AllAllowsAll =
     (p : Policy) (q : Question) → level_of p (target_rows p q) ≡ level.All → marks_of p (target_rows p q) ≡ unmarked →
     (command arguments : List ℕ) (f : Grant → Bool) → FailsByNotes p (with_command q command arguments) f →
     allowed (verdict_where p f) ≡ true
 
--- where the level is None, no command is allowed, whatever is met of what is noted
+-- where the level is None, no command is allowed, whichever notes are met
 abbrev pub NoneAllowsNone : Type 0
 NoneAllowsNone =
     (p : Policy) (q : Question) → level_of p (target_rows p q) ≡ level.None →
     (command arguments : List ℕ) (f : Grant → Bool) → FailsByNotes p (with_command q command arguments) f →
     allowed (verdict_where p f) ≡ false
 
--- the verdict itself is one of those
+-- the verdict on a request is that of the case in which all notes are met
 abbrev pub VerdictIsWhere : Type 0
 VerdictIsWhere =
     (p : Policy) (q : Question) → FailsByNotes p q (applies p q) × (verdict_on p q ≡ verdict_where p (applies p q))

@@ -1,7 +1,6 @@
 -- When every command is allowed without a password: NOPASSWD ALL stands, and no row behind it is denied or lacks NOPASSWD. And
 -- when a command may be: a row with NOPASSWD allows it, and no row behind it is for ALL and is denied or lacks NOPASSWD.
--- sudoers(5), "Tag_Spec", NOPASSWD and PASSWD. Of what a note stands for, met or not met, that counts which lets more go without
--- a password.
+-- sudoers(5), "Tag_Spec", NOPASSWD and PASSWD. A note may be met or not: both are upper bounds, which hold if either case has them.
 use Rattle.std.specs.Prelude.{◌≡◌, ℕ, Bool, true, false, not, ◌&&◌, ◌||◌, if◌then◌else◌, List, Option, Some, None, fold, get_or}
 use Rattle.sudo_grammar.specs.declared.policy.Policy.{Policy}
 use Rattle.sudo_match.specs.declared.request.Tags.{Tags}
@@ -60,14 +59,14 @@ abbrev pub freely_allowed : Verdict → Bool
 freely_allowed (Allow place tags) = nopasswd tags
 freely_allowed _ = false
 
--- rows that are free of passwords and depend on no note allow every command without one, whatever is met of what is noted
+-- rows that are free of passwords and depend on no note allow every command without one, whichever notes are met
 abbrev pub FreeNeedsNoPassword : Type 0
 FreeNeedsNoPassword =
     (p : Policy) (q : Question) → is_free p (target_rows p q) ≡ true → marks_of p (target_rows p q) ≡ unmarked →
     (command arguments : List ℕ) (f : Grant → Bool) → FailsByNotes p (with_command q command arguments) f →
     freely_allowed (verdict_where p f) ≡ true
 
--- where the rows for a target let no command go unasked, none is allowed without a password, whatever is met of what is noted
+-- where the rows for a target let no command go unasked, each allowed command asks for a password, whichever notes are met
 abbrev pub AskedAlways : Type 0
 AskedAlways =
     (p : Policy) (q : Question) → is_unasked p (target_rows p q) ≡ false →

@@ -21,7 +21,7 @@ pub struct AllowingRow {
     pub tags: Tags,
 }
 
-/// What rows give, whatever the command, and whatever is met of what is noted: the most that may be so.
+/// What rows give, whatever the command: an upper bound over every choice of the notes that are met.
 #[derive(Clone, Copy, Debug, PartialEq, Eq)]
 pub struct Given {
     /// The level of what they allow.
@@ -32,7 +32,7 @@ pub struct Given {
     pub unasked: bool,
     /// The last of them that allows, if any.
     pub by: Option<AllowingRow>,
-    /// The notes on which that depends: where there are none, it is so.
+    /// The notes on which the bound depends. Without notes the bound is exact.
     pub marks: Marks,
 }
 

@@ -7,28 +7,28 @@ ghost use Rattle.review_roots.specs.Passwords.{AskedAlways, FreeIsAll, FreeIsUna
 ghost use Rattle.review_roots.specs.Chains.{ChainsArePaths};
 ghost use Rattle.review_roots.specs.KnownGroups.{OtherGroupsChangeNoList};
 
-/// Where the level of the rows for a target is `All` and depends on no note, every command is allowed, with any arguments, whatever
-/// is met of what is noted. The verdict is one of those that this is about.
+/// Where the level of the rows for a target is `All` and depends on no note, every command is allowed, with any arguments, whichever
+/// notes are met. The verdict on a request is the case in which all are.
 pub fn all_allows_all()
     ensures allowed { AllAllowsAll }
     ensures verdict { VerdictIsWhere }
 {}
 
-/// Where the level of the rows for a target is `None`, no command is allowed, with any arguments, whatever is met of what is noted.
+/// Where the level of the rows for a target is `None`, no command is allowed, with any arguments, whichever notes are met.
 pub fn none_allows_none()
     ensures { NoneAllowsNone }
 {}
 
 /// Where the rows for a target are free of passwords and depend on no note, every command is allowed with the tag NOPASSWD,
-/// whatever is met of what is noted; and their level is `All`.
+/// whichever notes are met; and their level is `All`.
 pub fn free_needs_no_password()
     ensures place { slice_get pairs 6 ≡ Some Passwd }
     ensures free { FreeNeedsNoPassword }
     ensures all { FreeIsAll }
 {}
 
-/// Where the rows for a target let no command go unasked, none is allowed with the tag NOPASSWD, whatever is met of what is noted;
-/// and rows that are free of passwords let commands go unasked.
+/// Where the rows for a target let no command go unasked, none is allowed with the tag NOPASSWD, whichever notes are met; and rows
+/// that are free of passwords let commands go unasked.
 pub fn asked_always()
     ensures asked { AskedAlways }
     ensures free { FreeIsUnasked }

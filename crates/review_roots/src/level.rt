@@ -96,8 +96,7 @@ impl Level {
         }
     }
 
-    /// Returns the level after a further row of a rule with these notes: the better one of what it is where they are met, and where
-    /// they are not.
+    /// Returns the level after a further row of a rule with these notes: the better of the levels with and without the row.
     pub(crate) fn after(self, marks: Marks, negated: bool, is_all: bool) -> Level
         ensures { result ≡ after_row marks self negated is_all }
     {

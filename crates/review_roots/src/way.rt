@@ -41,7 +41,7 @@ pub struct Way {
     pub by: Option<AllowingRow>,
     /// Whose passwords its steps ask for.
     pub password: Password,
-    /// The notes on which its steps depend: where there are none, it is so; otherwise it is the most that may be so.
+    /// The notes on which its steps depend. Without notes the level and the password are exact; otherwise they are bounds.
     pub marks: Marks,
 }
 
