@@ -1,5 +1,5 @@
 -- Paths without an opening bracket stand for no note: lists without marks have none.
-use Rattle.std.proofs.Common.{◌≡◌, ◌∙◌, ◌==◌, ℕ, Bool, true, false, List, [], ◌∷◌, None, Some, ap, cond, refl, sym, arith}
+use Rattle.std.proofs.Common.{◌≡◌, ◌∙◌, ◌==◌, ◌&&◌, ℕ, zero, suc, Bool, true, false, List, [], ◌∷◌, take, None, Some, ap, cond, refl, sym, arith}
 use Rattle.std.specs.Prelude.{bytes_eq}
 use Rattle.std.specs.List.{list_all, list_any}
 use Rattle.sudo_base.proofs.IndexLemmas.{bytes_eq-is}
@@ -9,7 +9,7 @@ use Rattle.sudo_grammar.specs.declared.kind.Atom.{Atom}
 use Rattle.sudo_grammar.specs.declared.kind.Atom.TheVariants as atoms
 use Rattle.sudo_grammar.specs.declared.kind.Member.{Member}
 use Rattle.sudo_policy.specs.Definitions.{MemberList}
-use Rattle.review_texts.specs.Notes.{note_of, note_path}
+use Rattle.review_texts.specs.Notes.{front_of, note_of, note_path}
 use Rattle.review_texts.specs.declared.note.Note.{Note}
 use Rattle.review_texts.specs.declared.note.Note.TheVariants.{Digest, Time, Chroot}
 use Rattle.review_cautions.specs.ListTests.{is_of_commands}
@@ -34,9 +34,9 @@ none_found e d true c hd ht hc = absurd cc
 none_found e d t true hd ht hc = absurd cc
 
 -- a path that is that of no note stands for none
-no_note : (path : List Ch) → ((note : Note) → bytes_eq (bytes_of path) (note_path note) ≡ false) → note_of path ≡ None
-no_note path other = none_found (has_no_escape path) (bytes_eq (bytes_of path) (note_path Digest))
-    (bytes_eq (bytes_of path) (note_path Time)) (bytes_eq (bytes_of path) (note_path Chroot)) (other Digest) (other Time) (other Chroot)
+no_note : (path : List Ch) → ((note : Note) → bytes_eq (front_of path) (note_path note) ≡ false) → note_of path ≡ None
+no_note path other = none_found (has_no_escape path) (bytes_eq (front_of path) (note_path Digest))
+    (bytes_eq (front_of path) (note_path Time)) (bytes_eq (front_of path) (note_path Chroot)) (other Digest) (other Time) (other Chroot)
 
 abbrev is_bracket : ℕ → Bool
 is_bracket b = b == 91
@@ -54,10 +54,21 @@ no_brackets [] h = refl
 no_brackets (c ∷ cs) h = either (is_bracket c.byte) (list_any is_bracket (bytes_of cs))
     (no_bracket c (first (is_plain c) (list_all is_plain cs) h)) (no_brackets cs (second (is_plain c) (list_all is_plain cs) h))
 
+both_pass : (a b : Bool) → a ≡ true → b ≡ true → (a && b) ≡ true
+both_pass true b ha hb = hb
+both_pass false b ha hb = absurd cc
+
+-- a front of a path is as plain as the path
+front_plain : (n : ℕ) (path : List Ch) → list_all is_plain path ≡ true → list_all is_plain (take n path) ≡ true
+front_plain zero path h = refl
+front_plain (suc n) [] h = refl
+front_plain (suc n) (c ∷ cs) h = both_pass (is_plain c) (list_all is_plain (take n cs)) (first (is_plain c) (list_all is_plain cs) h)
+    (front_plain n cs (second (is_plain c) (list_all is_plain cs) h))
+
 -- the paths of notes have a bracket
 plain_note : (path : List Ch) → list_all is_plain path ≡ true → note_of path ≡ None
-plain_note path h = no_note path (λ note. differ (list_any is_bracket) (bytes_of path) (note_path note)
-    (λ same. absurd (let wrong : false ≡ true = sym (no_brackets path h) ∙ same ∙ bracketed note in cc)))
+plain_note path h = no_note path (λ note. differ (list_any is_bracket) (front_of path) (note_path note)
+    (λ same. absurd (let wrong : false ≡ true = sym (no_brackets (take 7 path) (front_plain 7 path h)) ∙ same ∙ bracketed note in cc)))
 
 no_such : (note : Note) → is_note note None ≡ false
 no_such Digest = refl

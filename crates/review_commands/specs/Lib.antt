@@ -1,6 +1,6 @@
 pub mod FileTexts
 pub mod CautionLines
-pub mod MachineLinks
+pub mod MachineFiles
 pub mod Endings
 pub mod Rows
 pub mod SubjectRows

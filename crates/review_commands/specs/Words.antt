@@ -26,37 +26,41 @@ name_rule id = record (new_rule id) { long = Some id }
 abbrev pub root_rule : Rule
 root_rule = name_rule (codes "root")
 
--- NAME FILE [--root DIR]
-abbrev pub policy_app : Text → App
-policy_app name = with_rule (with_rule (new_app name) (required_word (codes "file"))) root_rule
+-- --netgroups F
+abbrev pub netgroups_rule : Rule
+netgroups_rule = name_rule (codes "netgroups")
 
--- cautions FILE [--root DIR] [--links F] [--without CLASS]...
+-- NAME FILE [--root DIR] [--netgroups F]
+abbrev pub policy_app : Text → App
+policy_app name = with_rule (with_rule (with_rule (new_app name) (required_word (codes "file"))) root_rule) netgroups_rule
+
+-- cautions FILE [--root DIR] [--netgroups F] [--links F] [--without CLASS]...
 abbrev pub cautions_app : App
 cautions_app = with_rule (with_rule (policy_app (codes "cautions")) (name_rule (codes "links"))) without_rule
 
--- NAME FILE [--root DIR] --users F --hosts F
+-- NAME FILE [--root DIR] [--netgroups F] --users F --hosts F
 abbrev pub paths_app : Text → App
 paths_app name = with_rule (with_rule (policy_app name) (required_option (codes "users"))) (required_option (codes "hosts"))
 
--- grants FILE [--root DIR] --users F --hosts F [--user NAME] [--host NAME]
+-- grants FILE [--root DIR] [--netgroups F] --users F --hosts F [--user NAME] [--host NAME]
 abbrev pub grants_app : App
 grants_app = with_rule (with_rule (paths_app (codes "grants")) (name_rule (codes "user"))) (name_rule (codes "host"))
 
--- who FILE [--root DIR] --users F --hosts F --command PATH [--arguments TEXT] [--runas USER]
+-- who FILE [--root DIR] [--netgroups F] --users F --hosts F --command PATH [--arguments TEXT] [--runas USER]
 abbrev pub who_app : App
 who_app = with_rule (with_rule (with_rule (paths_app (codes "who")) (required_option (codes "command")))
     (name_rule (codes "arguments"))) (name_rule (codes "runas"))
 
--- compare OLD NEW --users F --hosts F
+-- compare OLD NEW [--netgroups F] --users F --hosts F
 abbrev pub pair_app : App
-pair_app = with_rule (with_rule (with_rule (with_rule (new_app (codes "compare")) (required_word (codes "old")))
-    (required_word (codes "new"))) (required_option (codes "users"))) (required_option (codes "hosts"))
+pair_app = with_rule (with_rule (with_rule (with_rule (with_rule (new_app (codes "compare")) (required_word (codes "old")))
+    (required_word (codes "new"))) netgroups_rule) (required_option (codes "users"))) (required_option (codes "hosts"))
 
 -- --requests NAME=PATH, any number of times
 abbrev pub requests_rule : Rule
 requests_rule = record (new_rule (codes "requests")) { long = Some (codes "requests"); action = Some Append }
 
--- compare OLD NEW --users F --hosts F [--user NAME] [--host NAME] [--requests NAME=PATH]...
+-- compare OLD NEW [--netgroups F] --users F --hosts F [--user NAME] [--host NAME] [--requests NAME=PATH]...
 abbrev pub compare_app : App
 compare_app = with_rule (with_rule (with_rule pair_app (name_rule (codes "user"))) (name_rule (codes "host"))) requests_rule
 
@@ -64,11 +68,11 @@ compare_app = with_rule (with_rule (with_rule pair_app (name_rule (codes "user")
 abbrev pub all_rule : Rule
 all_rule = record (new_rule (codes "all")) { long = Some (codes "all"); action = Some SetTrue }
 
--- roots FILE [--root DIR] --users F --hosts F [--all]
+-- roots FILE [--root DIR] [--netgroups F] --users F --hosts F [--all]
 abbrev pub roots_app : App
 roots_app = with_rule (paths_app (codes "roots")) all_rule
 
--- NAME FILE [--root DIR] --users F --hosts F [--workers N] [NAME=PATH]...
+-- NAME FILE [--root DIR] [--netgroups F] --users F --hosts F [--workers N] [NAME=PATH]...
 abbrev pub judging_app : Text → App
 judging_app name = with_rule (with_rule (paths_app name) workers_rule) senders_rule
 
@@ -82,10 +86,11 @@ program_app = with_subcommand (with_subcommand (with_subcommand (with_subcommand
     (with_subcommand (with_subcommand named_app (policy_app (codes "check")).top) cautions_app.top) (judging_app (codes "report")).top)
     grants_app.top) who_app.top) roots_app.top) (paths_app (codes "subjects")).top) (judging_app (codes "rules")).top) compare_app.top
 
--- the rows hold the main file of a policy, and the folder below which its files are, if one is given
+-- the rows hold the main file of a policy, the folder below which its files are, and the file of its netgroups, if they are given
 pub record HavePolicy (rows : List Row) (policy : PolicyPath) : Type 0 where
   pub file_is : first_of (codes "file") rows ≡ Some policy.file.now
   pub root_is : first_of (codes "root") rows ≡ option_map (λ s. s.now) policy.root
+  pub netgroups_is : first_of (codes "netgroups") rows ≡ option_map (λ s. s.now) policy.netgroups
 
 -- the rows hold the paths of a policy, of the known users and of the known hosts
 pub record HavePaths (rows : List Row) (paths : Paths) : Type 0 where
@@ -93,12 +98,13 @@ pub record HavePaths (rows : List Row) (paths : Paths) : Type 0 where
   pub users_is : first_of (codes "users") rows ≡ Some paths.users.now
   pub hosts_is : first_of (codes "hosts") rows ≡ Some paths.hosts.now
 
--- the rows hold the paths of two policies, of the known users and of the known hosts
+-- the rows hold the paths of two policies, of the known users and of the known hosts, and of the netgroups, if they are given
 pub record HavePair (rows : List Row) (paths : PairPaths) : Type 0 where
   pub old_is : first_of (codes "old") rows ≡ Some paths.old.now
   pub new_is : first_of (codes "new") rows ≡ Some paths.new.now
   pub users_is : first_of (codes "users") rows ≡ Some paths.users.now
   pub hosts_is : first_of (codes "hosts") rows ≡ Some paths.hosts.now
+  pub netgroups_is : first_of (codes "netgroups") rows ≡ option_map (λ s. s.now) paths.netgroups
 
 -- the text of a flag says whether it is on; without one it is off
 abbrev pub IsFlag : Bool → Option Text → Type 0

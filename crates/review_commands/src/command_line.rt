@@ -2,7 +2,7 @@
 ghost use Rattle.std.specs.Prelude.{◌≡◌, IfOk, codes, false};
 ghost use Rattle.clap.specs.Words.{app_of, rule_of};
 ghost use Rattle.clap.specs.declared.builder.command.Command.TheViews.{out-Command as fields_of};
-ghost use Rattle.review_commands.specs.Words.{all_rule, cautions_app, compare_app, grants_app, judging_app, name_rule};
+ghost use Rattle.review_commands.specs.Words.{all_rule, cautions_app, compare_app, grants_app, judging_app, name_rule, netgroups_rule};
 ghost use Rattle.review_commands.specs.Words.{named_app, pair_app, paths_app, policy_app, program_app, requests_rule, root_rule, roots_app};
 ghost use Rattle.review_commands.specs.Words.{who_app, without_rule};
 
@@ -33,7 +33,15 @@ fn root<'a>(alloc: Global) -> Arg<'a>
     )
 }
 
-// Returns `NAME FILE [--root DIR]`.
+// Returns `--netgroups F`.
+fn netgroups<'a>(alloc: Global) -> Arg<'a>
+    ensures rule { rule_of result ≡ netgroups_rule }
+    ensures local { result.global ≡ false }
+{
+    name_option(alloc, "netgroups", "The known netgroups, as CSV")
+}
+
+// Returns `NAME FILE [--root DIR] [--netgroups F]`.
 fn with_policy<'a>(alloc: Global, name: &'a str, about: &'a str) -> Result<Command<'a>, AllocError>
     ensures app { IfOk result (λ c. app_of c ≡ policy_app name.entry.now) }
     ensures local { IfOk result (λ c. (fields_of c).has_globals ≡ false) }
@@ -41,10 +49,11 @@ fn with_policy<'a>(alloc: Global, name: &'a str, about: &'a str) -> Result<Comma
     Command::new(alloc, name)
         .about(about)
         .arg(file(alloc))?
-        .arg(root(alloc))
+        .arg(root(alloc))?
+        .arg(netgroups(alloc))
 }
 
-// Returns `check FILE [--root DIR]`.
+// Returns `check FILE [--root DIR] [--netgroups F]`.
 fn check<'a>(alloc: Global) -> Result<Command<'a>, AllocError>
     ensures app { IfOk result (λ c. app_of c ≡ policy_app (codes "check")) }
     ensures local { IfOk result (λ c. (fields_of c).has_globals ≡ false) }
@@ -53,7 +62,7 @@ fn check<'a>(alloc: Global) -> Result<Command<'a>, AllocError>
     with_policy(alloc, "check", about)
 }
 
-// Returns `cautions FILE [--root DIR] [--links F] [--without CLASS]...`.
+// Returns `cautions FILE [--root DIR] [--netgroups F] [--links F] [--without CLASS]...`.
 fn cautions<'a>(alloc: Global) -> Result<Command<'a>, AllocError>
     ensures app { IfOk result (λ c. app_of c ≡ cautions_app) }
     ensures local { IfOk result (λ c. (fields_of c).has_globals ≡ false) }
@@ -68,7 +77,7 @@ fn cautions<'a>(alloc: Global) -> Result<Command<'a>, AllocError>
         .arg(without(alloc))
 }
 
-// Returns `NAME FILE [--root DIR] --users F --hosts F`.
+// Returns `NAME FILE [--root DIR] [--netgroups F] --users F --hosts F`.
 fn with_paths<'a>(alloc: Global, name: &'a str, about: &'a str) -> Result<Command<'a>, AllocError>
     ensures app { IfOk result (λ c. app_of c ≡ paths_app name.entry.now) }
     ensures local { IfOk result (λ c. (fields_of c).has_globals ≡ false) }
@@ -86,7 +95,7 @@ fn name_option<'a>(alloc: Global, id: &'a str, help: &'a str) -> Arg<'a>
     Arg::new(alloc, id).long(id).help(help)
 }
 
-// Returns `grants FILE [--root DIR] --users F --hosts F [--user NAME] [--host NAME]`.
+// Returns `grants FILE [--root DIR] [--netgroups F] --users F --hosts F [--user NAME] [--host NAME]`.
 fn grants<'a>(alloc: Global) -> Result<Command<'a>, AllocError>
     ensures app { IfOk result (λ c. app_of c ≡ grants_app) }
     ensures local { IfOk result (λ c. (fields_of c).has_globals ≡ false) }
@@ -97,7 +106,7 @@ fn grants<'a>(alloc: Global) -> Result<Command<'a>, AllocError>
         .arg(name_option(alloc, "host", "Only the grants on this host"))
 }
 
-// Returns `who FILE [--root DIR] --users F --hosts F --command PATH [--arguments TEXT] [--runas USER]`.
+// Returns `who FILE [--root DIR] [--netgroups F] --users F --hosts F --command PATH [--arguments TEXT] [--runas USER]`.
 fn who<'a>(alloc: Global) -> Result<Command<'a>, AllocError>
     ensures app { IfOk result (λ c. app_of c ≡ who_app) }
     ensures local { IfOk result (λ c. (fields_of c).has_globals ≡ false) }
@@ -124,7 +133,7 @@ fn all<'a>(alloc: Global) -> Arg<'a>
         .help("Also who can by listed commands alone")
 }
 
-// Returns `roots FILE [--root DIR] --users F --hosts F [--all]`.
+// Returns `roots FILE [--root DIR] [--netgroups F] --users F --hosts F [--all]`.
 fn roots<'a>(alloc: Global) -> Result<Command<'a>, AllocError>
     ensures app { IfOk result (λ c. app_of c ≡ roots_app) }
     ensures local { IfOk result (λ c. (fields_of c).has_globals ≡ false) }
@@ -133,7 +142,7 @@ fn roots<'a>(alloc: Global) -> Result<Command<'a>, AllocError>
     with_paths(alloc, "roots", about)?.arg(all(alloc))
 }
 
-// Returns `subjects FILE [--root DIR] --users F --hosts F`.
+// Returns `subjects FILE [--root DIR] [--netgroups F] --users F --hosts F`.
 fn subjects<'a>(alloc: Global) -> Result<Command<'a>, AllocError>
     ensures app { IfOk result (λ c. app_of c ≡ paths_app (codes "subjects")) }
     ensures local { IfOk result (λ c. (fields_of c).has_globals ≡ false) }
@@ -142,7 +151,7 @@ fn subjects<'a>(alloc: Global) -> Result<Command<'a>, AllocError>
     with_paths(alloc, "subjects", about)
 }
 
-// Returns `rules FILE [--root DIR] --users F --hosts F [--workers N] [NAME=PATH]...`.
+// Returns `rules FILE [--root DIR] [--netgroups F] --users F --hosts F [--workers N] [NAME=PATH]...`.
 fn rules<'a>(alloc: Global) -> Result<Command<'a>, AllocError>
     ensures app { IfOk result (λ c. app_of c ≡ judging_app (codes "rules")) }
     ensures local { IfOk result (λ c. (fields_of c).has_globals ≡ false) }
@@ -153,7 +162,7 @@ fn rules<'a>(alloc: Global) -> Result<Command<'a>, AllocError>
         .arg(senders_words(alloc))
 }
 
-// Returns `report FILE [--root DIR] --users F --hosts F [--workers N] [NAME=PATH]...`.
+// Returns `report FILE [--root DIR] [--netgroups F] --users F --hosts F [--workers N] [NAME=PATH]...`.
 fn report<'a>(alloc: Global) -> Result<Command<'a>, AllocError>
     ensures app { IfOk result (λ c. app_of c ≡ judging_app (codes "report")) }
     ensures local { IfOk result (λ c. (fields_of c).has_globals ≡ false) }
@@ -164,7 +173,7 @@ fn report<'a>(alloc: Global) -> Result<Command<'a>, AllocError>
         .arg(senders_words(alloc))
 }
 
-// Returns `compare OLD NEW --users F --hosts F`.
+// Returns `compare OLD NEW [--netgroups F] --users F --hosts F`.
 fn pair<'a>(alloc: Global) -> Result<Command<'a>, AllocError>
     ensures app { IfOk result (λ c. app_of c ≡ pair_app) }
     ensures local { IfOk result (λ c. (fields_of c).has_globals ≡ false) }
@@ -173,6 +182,7 @@ fn pair<'a>(alloc: Global) -> Result<Command<'a>, AllocError>
         .about("Lists what a change of a policy does, for every command")
         .arg(word(alloc, "old", "The main file of the policy before"))?
         .arg(word(alloc, "new", "The main file of the policy after"))?
+        .arg(netgroups(alloc))?
         .arg(path_option(alloc, "users", "The known users, as CSV"))?
         .arg(path_option(alloc, "hosts", "The known hosts, as CSV"))
 }
@@ -188,7 +198,7 @@ fn requests<'a>(alloc: Global) -> Arg<'a>
         .help("In place of all commands, the requests of a sender's file, as NAME=PATH")
 }
 
-// Returns `compare OLD NEW --users F --hosts F [--user NAME] [--host NAME] [--requests NAME=PATH]...`.
+// Returns `compare OLD NEW [--netgroups F] --users F --hosts F [--user NAME] [--host NAME] [--requests NAME=PATH]...`.
 fn compare<'a>(alloc: Global) -> Result<Command<'a>, AllocError>
     ensures app { IfOk result (λ c. app_of c ≡ compare_app) }
     ensures local { IfOk result (λ c. (fields_of c).has_globals ≡ false) }

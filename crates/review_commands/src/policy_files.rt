@@ -1,11 +1,14 @@
 //! The files of the policy that a command is about.
 ghost use Rattle.run_base.specs.Holding.{any_holdings};
 
+use crate::machine_file::MachineFileFault;
+use crate::netgroups::machine_netgroups;
 use crate::request::PolicyPath;
+use audit_files::Triple;
 use review_files::{HostTree, Rooted};
-use review_texts::Masked;
-use run_base::{Disk, Files, FilesFault};
-use std::alloc::{AllocError, Global};
+use review_texts::{Masked, Readable};
+use run_base::{Disk, Files, FilesFault, OpenFault, SystemOpener, open};
+use std::alloc::Global;
 use sudo_text::Seq;
 
 /// The files of this machine, or those below a folder of it.
@@ -15,25 +18,72 @@ pub(crate) enum PolicyFiles<'a> {
     Below(Rooted<HostTree<'a>>),
 }
 
-/// Returns the files of a policy, with their masked texts. A note stands for each digest, time and root. Returns `AllocError` if
+// Returns the netgroups that the file at a path states; none without one.
+fn netgroups_at(rt: &HostRuntime, path: Option<&str>) -> Result<Vec<Triple>, MachineFileFault> {
+    let alloc = rt.alloc();
+    let Some(path) = path else {
+        return Ok(Vec::new(alloc));
+    };
+    match open(alloc, &SystemOpener::new(rt), path) {
+        Ok(mut file) => machine_netgroups(alloc, &mut file),
+        Err(fault) => Err(MachineFileFault::Unopened(fault)),
+    }
+}
+
+// Returns the files of this machine, or those below a folder of it.
+fn files_below<'a>(
+    rt: &'a HostRuntime,
+    root: Option<&str>,
+) -> Result<PolicyFiles<'a>, MachineFileFault> {
+    let Some(root) = root else {
+        return Ok(PolicyFiles::Machine(Disk::new(rt)));
+    };
+    match Seq::from_slice(rt.alloc(), root.as_bytes()) {
+        Ok(folder) => Ok(PolicyFiles::Below(Rooted::new(HostTree::new(rt), folder))),
+        Err(_) => Err(MachineFileFault::Unopened(OpenFault::Memory)),
+    }
+}
+
+/// Returns the files of a policy, with their masked texts: a note stands for each digest, time and root, and the members for each
+/// netgroup that the file of netgroups has. Returns why that file says nothing, if it does not, and `Unopened` with `Memory` if
 /// allocation failed.
 pub(crate) fn policy_files<'a>(
     rt: &'a HostRuntime,
     policy: PolicyPath<'_>,
-) -> Result<Masked<PolicyFiles<'a>>, AllocError> {
-    match policy.root {
-        None => Ok(Masked::new(PolicyFiles::Machine(Disk::new(rt)), true)),
-        Some(root) => {
-            let folder = Seq::from_slice(rt.alloc(), root.as_bytes())?;
-            let files = Rooted::new(HostTree::new(rt), folder);
-            Ok(Masked::new(PolicyFiles::Below(files), true))
-        }
-    }
+) -> Result<Masked<PolicyFiles<'a>>, MachineFileFault> {
+    let netgroups = netgroups_at(rt, policy.netgroups)?;
+    let files = files_below(rt, policy.root)?;
+    let readable = Readable {
+        noted: true,
+        netgroups,
+    };
+    Ok(Masked::new(files, readable))
 }
 
-/// Returns the files of this machine, with their masked texts. Digests, times and roots stay, and the reader refuses them.
-pub(crate) fn machine_files<'a>(rt: &'a HostRuntime) -> Masked<PolicyFiles<'a>> {
-    Masked::new(PolicyFiles::Machine(Disk::new(rt)), false)
+// Returns the files of this machine, with their masked texts. Digests, times and roots stay, and the reader refuses them.
+fn machine_files<'a>(
+    rt: &'a HostRuntime,
+    netgroups: Option<&str>,
+) -> Result<Masked<PolicyFiles<'a>>, MachineFileFault> {
+    let netgroups = netgroups_at(rt, netgroups)?;
+    let readable = Readable {
+        noted: false,
+        netgroups,
+    };
+    Ok(Masked::new(PolicyFiles::Machine(Disk::new(rt)), readable))
+}
+
+/// The files of a policy, with their masked texts.
+pub(crate) type MaskedFiles<'a> = Masked<PolicyFiles<'a>>;
+
+/// Returns the files of this machine twice, for two policies that are compared. Returns the faults of `policy_files`.
+pub(crate) fn pair_files<'a>(
+    rt: &'a HostRuntime,
+    netgroups: Option<&str>,
+) -> Result<(MaskedFiles<'a>, MaskedFiles<'a>), MachineFileFault> {
+    let old = machine_files(rt, netgroups)?;
+    let new = machine_files(rt, netgroups)?;
+    Ok((old, new))
 }
 
 impl Files for PolicyFiles<'_> {

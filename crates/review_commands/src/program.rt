@@ -7,8 +7,9 @@ use crate::changes::changes_run;
 use crate::check::check_run;
 use crate::compare::compare_run;
 use crate::grants::{ScopeNames, grants_run};
-use crate::links::{LinksFault, machine_links};
-use crate::policy_files::{machine_files, policy_files};
+use crate::links::machine_links;
+use crate::machine_file::MachineFileFault;
+use crate::policy_files::{pair_files, policy_files};
 use crate::program_name::PROGRAM;
 use crate::report::{Form, report_into};
 use crate::request::{Asked, PairPaths, Paths, PolicyPath};
@@ -78,17 +79,17 @@ fn run_report<T: Threads + Wait + Sync>(
 }
 
 // Returns the links of the machine: those of the file at a path, or the usual ones.
-fn links_at(rt: &HostRuntime, path: Option<&str>) -> Result<Vec<Link>, LinksFault> {
+fn links_at(rt: &HostRuntime, path: Option<&str>) -> Result<Vec<Link>, MachineFileFault> {
     let alloc = rt.alloc();
     let Some(path) = path else {
         return match usual_links(alloc) {
             Ok(links) => Ok(links),
-            Err(_) => Err(LinksFault::Unopened(OpenFault::Memory)),
+            Err(_) => Err(MachineFileFault::Unopened(OpenFault::Memory)),
         };
     };
     match open(alloc, &SystemOpener::new(rt), path) {
         Ok(mut file) => machine_links(alloc, &mut file),
-        Err(fault) => Err(LinksFault::Unopened(fault)),
+        Err(fault) => Err(MachineFileFault::Unopened(fault)),
     }
 }
 
@@ -265,6 +266,10 @@ fn run_compare(rt: &HostRuntime, paths: PairPaths<'_>, names: ScopeNames<'_>) ->
     let alloc = rt.alloc();
     let mut out = Device::new(rt.stdout());
     let mut err = Device::new(rt.stderr());
+    let (mut before, mut after) = match pair_files(rt, paths.netgroups) {
+        Ok(pair) => pair,
+        Err(refused) => return report_explained(alloc, PROGRAM, refused, &mut err),
+    };
     match open_all(alloc, &SystemOpener::new(rt), paths.users, paths.hosts, &[]) {
         Ok(opened) => {
             let OpenedFiles {
@@ -275,9 +280,9 @@ fn run_compare(rt: &HostRuntime, paths: PairPaths<'_>, names: ScopeNames<'_>) ->
             compare_run(
                 alloc,
                 paths.old.as_bytes(),
-                &mut machine_files(rt),
+                &mut before,
                 paths.new.as_bytes(),
-                &mut machine_files(rt),
+                &mut after,
                 &mut users,
                 &mut hosts,
                 names,
@@ -300,6 +305,10 @@ fn run_changes<T: Threads + Wait + Sync>(
     let alloc = rt.alloc();
     let mut out = Device::new(rt.stdout());
     let mut err = Device::new(rt.stderr());
+    let (mut before, mut after) = match pair_files(rt, paths.netgroups) {
+        Ok(pair) => pair,
+        Err(refused) => return report_explained(alloc, PROGRAM, refused, &mut err),
+    };
     match open_all(
         alloc,
         &SystemOpener::new(rt),
@@ -317,9 +326,9 @@ fn run_changes<T: Threads + Wait + Sync>(
                 alloc,
                 threads,
                 paths.old.as_bytes(),
-                &mut machine_files(rt),
+                &mut before,
                 paths.new.as_bytes(),
-                &mut machine_files(rt),
+                &mut after,
                 &mut users,
                 &mut hosts,
                 sources,

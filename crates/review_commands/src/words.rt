@@ -81,7 +81,12 @@ fn policy_of<'a>(given: &ArgMatches<'a>) -> Option<PolicyPath<'a>>
 {
     let file = value(given, "file")?;
     let root = value(given, "root");
-    Some(PolicyPath { file, root })
+    let netgroups = value(given, "netgroups");
+    Some(PolicyPath {
+        file,
+        root,
+        netgroups,
+    })
 }
 
 // Returns the command of the values of `check`.
@@ -196,11 +201,13 @@ fn pair_of<'a>(given: &ArgMatches<'a>) -> Option<PairPaths<'a>>
     let new = value(given, "new")?;
     let users = value(given, "users")?;
     let hosts = value(given, "hosts")?;
+    let netgroups = value(given, "netgroups");
     Some(PairPaths {
         old,
         new,
         users,
         hosts,
+        netgroups,
     })
 }
 

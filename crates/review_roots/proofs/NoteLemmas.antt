@@ -1,9 +1,10 @@
 -- Tests of grants that may fail by what is noted: they hold of rows for the target alone, of each that is ALL and has no note, and of
 -- none that stands for a note.
-use Rattle.std.proofs.Common.{◌≡◌, ◌∙◌, ℕ, Bool, true, false, not, cond, ◌&&◌, ◌||◌, List, [], ◌∷◌, ap, map, refl, sym, Some, None}
+use Rattle.std.proofs.Common.{◌≡◌, ◌∙◌, ℕ, Bool, true, false, not, cond, ◌&&◌, ◌||◌, List, [], ◌∷◌, ◌++◌, take, drop, ap, map, refl, sym, Some, None}
 use Rattle.std.specs.Prelude.{find, is_some}
 use Rattle.std.specs.Str.{bytes_eq}
 use Rattle.std.proofs.lemmas.Bool.{and_parts}
+use Rattle.std.proofs.lemmas.List.{take-append-drop}
 use Rattle.sudo_base.proofs.IndexLemmas.{bytes_eq-is}
 use Rattle.sudo_text.specs.declared.token.Ch.{Ch}
 use Rattle.sudo_text.specs.Pieces.{plain}
@@ -18,7 +19,7 @@ use Rattle.sudo_verdict.specs.Questions.{Question}
 use Rattle.sudo_verdict.specs.Grants.{Grant, applies}
 use Rattle.review_texts.specs.declared.note.Note.{Note}
 use Rattle.review_texts.specs.declared.note.Note.TheVariants.{Digest, Time, Chroot}
-use Rattle.review_texts.specs.Notes.{note_in, note_path, notes}
+use Rattle.review_texts.specs.Notes.{front_of, note_in, note_path, notes}
 use Rattle.review_texts.proofs.NoPath.{note_fits_nothing}
 use Rattle.review_grants.specs.declared.marks.Marks.{Marks}
 use Rattle.review_grants.specs.Depends.{is_note_grant, is_noted_at, is_unmarked, joined_marks, marks_at, notes_at, unmarked}
@@ -40,23 +41,33 @@ plain-bytes (c ∷ cs) e =
     go true is e = cc
     go false is e = ap (λ b. record { byte = c.byte; escaped = b }) is
 
-path-unfit : (path : List Ch) (note : Note) → has_no_escape path ≡ true → bytes_eq (bytes_of path) (note_path note) ≡ true
+bytes-append : (front back : List Ch) → bytes_of (front ++ back) ≡ bytes_of front ++ bytes_of back
+bytes-append [] back = refl
+bytes-append (c ∷ front) back = ap (λ (bs : List ℕ). c.byte ∷ bs) (bytes-append front back)
+
+-- the bytes of a path are its front and the rest
+fronted : (path : List Ch) → bytes_of path ≡ front_of path ++ bytes_of (drop 7 path)
+fronted path = ap bytes_of (sym (take-append-drop 7 path)) ∙ bytes-append (take 7 path) (drop 7 path)
+
+path-unfit : (path : List Ch) (note : Note) → has_no_escape path ≡ true → bytes_eq (front_of path) (note_path note) ≡ true
     → (c x : List ℕ) → command_fits (atom.Command path None) c x ≡ false
 path-unfit path note unescaped same c x =
+    let front = bytes_eq-is (front_of path) (note_path note) same in
+    let rest : List ℕ = bytes_of (drop 7 path) in
     ap (λ p. command_fits (atom.Command p None) c x)
-    (plain-bytes path unescaped ∙ ap (map plain) (bytes_eq-is (bytes_of path) (note_path note) same))
-    ∙ note_fits_nothing note c x
+    (plain-bytes path unescaped ∙ ap (map plain) (fronted path ∙ ap (λ (bs : List ℕ). bs ++ rest) front))
+    ∙ note_fits_nothing note rest c x
 
 found-unfit : (path : List Ch) (c x : List ℕ) → (b : Bool) → has_no_escape path ≡ b
-    → is_some (cond b (find (λ note. bytes_eq (bytes_of path) (note_path note)) notes) None) ≡ true
+    → is_some (cond b (find (λ note. bytes_eq (front_of path) (note_path note)) notes) None) ≡ true
     → command_fits (atom.Command path None) c x ≡ false
 found-unfit path c x false is e = cc
 found-unfit path c x true is e =
-    go (bytes_eq (bytes_of path) (note_path Digest)) refl (bytes_eq (bytes_of path) (note_path Time)) refl
-    (bytes_eq (bytes_of path) (note_path Chroot)) refl e
+    go (bytes_eq (front_of path) (note_path Digest)) refl (bytes_eq (front_of path) (note_path Time)) refl
+    (bytes_eq (front_of path) (note_path Chroot)) refl e
   where
-    go : (d : Bool) → bytes_eq (bytes_of path) (note_path Digest) ≡ d → (t : Bool) → bytes_eq (bytes_of path) (note_path Time) ≡ t
-        → (r : Bool) → bytes_eq (bytes_of path) (note_path Chroot) ≡ r
+    go : (d : Bool) → bytes_eq (front_of path) (note_path Digest) ≡ d → (t : Bool) → bytes_eq (front_of path) (note_path Time) ≡ t
+        → (r : Bool) → bytes_eq (front_of path) (note_path Chroot) ≡ r
         → is_some (cond d (Some Digest) (cond t (Some Time) (cond r (Some Chroot) None))) ≡ true
         → command_fits (atom.Command path None) c x ≡ false
     go true at t is_t r is_r e = path-unfit path Digest is at c x

@@ -1,6 +1,6 @@
 -- Texts that no word begins.
 use Rattle.std.proofs.Common.{◌≡◌, ℕ, Bool, true, false, List, [], ◌∷◌, refl, ◌∙◌, ap}
-use Rattle.std.specs.Prelude.{◌&&◌, ◌||◌, ⊤, nat_eq, slice_index}
+use Rattle.std.specs.Prelude.{◌&&◌, ◌||◌, ◌==◌, ⊤, nat_eq, slice_index}
 use Rattle.std.specs.List.{list_any, starts_with}
 use Rattle.review_texts.specs.Body.Beginnings.{begins_as, begin_word}
 use Rattle.review_texts.specs.Words.{begins_word, words}
@@ -52,4 +52,8 @@ all_none first rest ((a ∷ b ∷ more) ∷ ws) long none =
 -- A text of whose first two bytes no word begins.
 pub no_word_at : (first : ℕ) (rest text : List ℕ) → text ≡ first ∷ rest → begin_word first (slice_index rest 0) ≡ false
     → begins_word text ≡ false
-no_word_at first rest text is none = ap begins_word is ∙ all_none first rest words tt none
+no_word_at first rest text is none =
+    let none_as = or_left (list_any (begins_as first (slice_index rest 0)) words) (first == 43) none in
+    let no_plus = or_right (list_any (begins_as first (slice_index rest 0)) words) (first == 43) none in
+    ap begins_word is ∙ or_none (list_any (starts_with nat_eq (first ∷ rest)) words) (first == 43)
+    (all_none first rest words tt none_as) no_plus

@@ -1,5 +1,5 @@
 -- The blocks of a text.
-use Rattle.std.proofs.Common.{◌≡◌, ℕ, zero, suc, ◌-◌, Bool, true, false, cond, List, [], ◌∷◌, ◌++◌, length}
+use Rattle.std.proofs.Common.{◌≡◌, ℕ, zero, suc, ◌-◌, true, false, cond, List, [], ◌∷◌, ◌++◌, length}
 use Rattle.std.proofs.Common.{drop, take, refl, sym, ◌∙◌, ap, subst, arith, append_assoc}
 use Rattle.std.proofs.Common.{Result, Ok, Err}
 use Rattle.std.specs.Prelude.{◌==◌, ◌<◌, OnOk}
@@ -8,6 +8,7 @@ use Rattle.sudo_text.specs.declared.line.Line.{Line}
 use Rattle.sudo_text.specs.declared.fault.TextFault.{TextFault}
 use Rattle.sudo_text.specs.declared.fault.TextFault.TheVariants as faults
 use Rattle.sudo_text.specs.Faults.{Fails}
+use Rattle.review_texts.specs.declared.readable.Readable.{Readable}
 use Rattle.review_texts.specs.MaskedTexts.{front_lines, written, IsBlock, AreBlocks, IsTextBy}
 
 -- The length of the first lines, byte by byte.
@@ -50,46 +51,46 @@ take_written (suc n) (b ∷ bs) = elim (b == 10)
     [ true ↦ ap (λ (ys : List ℕ). b ∷ ys) (take_written n bs) | false ↦ ap (λ (ys : List ℕ). b ∷ ys) (take_written (suc n) bs) ]
 
 -- One block more.
-pub block_before : (noted : Bool) (line : Line) (lines : List Line) (bytes rest after block tail : List ℕ) → bytes ≡ written line rest
-    → after ≡ drop (length (written line rest)) rest → IsBlock noted line bytes block → AreBlocks noted lines after tail
-    → AreBlocks noted (line ∷ lines) rest (block ++ tail)
-block_before noted line lines bytes rest after block tail front back is are = (
+pub block_before : (r : Readable) (line : Line) (lines : List Line) (bytes rest after block tail : List ℕ) → bytes ≡ written line rest
+    → after ≡ drop (length (written line rest)) rest → IsBlock r line bytes block → AreBlocks r lines after tail
+    → AreBlocks r (line ∷ lines) rest (block ++ tail)
+block_before r line lines bytes rest after block tail front back is are = (
   block,
   tail,
-  subst (λ (b : List ℕ). IsBlock noted line b block) front is,
-  subst (λ (r : List ℕ). AreBlocks noted lines r tail) back are,
+  subst (λ (b : List ℕ). IsBlock r line b block) front is,
+  subst (λ (xs : List ℕ). AreBlocks r lines xs tail) back are,
   refl,
 )
 
 -- A block is appended.
-pub pushed : {A E : Type 0} (noted : Bool) (r : Result A E) (line : Line) (bytes block old new : List ℕ) → IsBlock noted line bytes block
-    → OnOk r (new ≡ old ++ block) → OnOk r ((part : List ℕ) × IsBlock noted line bytes part × (new ≡ old ++ part))
-pushed noted (Ok done) line bytes block old new is put = (block, is, put)
-pushed noted (Err fault) line bytes block old new is put = tt
+pub pushed : {A E : Type 0} (r : Readable) (done : Result A E) (line : Line) (bytes block old new : List ℕ) → IsBlock r line bytes block
+    → OnOk done (new ≡ old ++ block) → OnOk done ((part : List ℕ) × IsBlock r line bytes part × (new ≡ old ++ part))
+pushed r (Ok found) line bytes block old new is put = (block, is, put)
+pushed r (Err fault) line bytes block old new is put = tt
 
 -- A text with a fault stays.
-pub text_fault : (noted : Bool) (fault : TextFault) (wanted : Result (List Line) TextFault) (text : List ℕ) → (fault ≡ faults.Memory → ⊥)
-    → Fails fault wanted → IsTextBy noted wanted text text
-text_fault noted faults.Memory wanted text other fails = absurd (other refl)
-text_fault noted (faults.BadQuote place col) wanted text other fails = rw fails refl
-text_fault noted (faults.BadHex place col) wanted text other fails = rw fails refl
-text_fault noted (faults.BadEscape place col) wanted text other fails = rw fails refl
-text_fault noted (faults.NotPrintable place col) wanted text other fails = rw fails refl
-text_fault noted (faults.TooLong file) wanted text other fails = rw fails refl
+pub text_fault : (r : Readable) (fault : TextFault) (wanted : Result (List Line) TextFault) (text : List ℕ) → (fault ≡ faults.Memory → ⊥)
+    → Fails fault wanted → IsTextBy r wanted text text
+text_fault r faults.Memory wanted text other fails = absurd (other refl)
+text_fault r (faults.BadQuote place col) wanted text other fails = rw fails refl
+text_fault r (faults.BadHex place col) wanted text other fails = rw fails refl
+text_fault r (faults.BadEscape place col) wanted text other fails = rw fails refl
+text_fault r (faults.NotPrintable place col) wanted text other fails = rw fails refl
+text_fault r (faults.TooLong file) wanted text other fails = rw fails refl
 
 -- The invariant of the loop over lines, one line on.
-abbrev pub Along : Bool → List Line → List ℕ → List Line → List ℕ → List ℕ → Type 0
-Along noted lines text left rest masked = (tail : List ℕ) → AreBlocks noted left rest tail → AreBlocks noted lines text (masked ++ tail)
+abbrev pub Along : Readable → List Line → List ℕ → List Line → List ℕ → List ℕ → Type 0
+Along r lines text left rest masked = (tail : List ℕ) → AreBlocks r left rest tail → AreBlocks r lines text (masked ++ tail)
 
-pub along_more : (noted : Bool) (lines left more : List Line) (line : Line) (text rest bytes after masked longer : List ℕ)
-    → Along noted lines text left rest masked → left ≡ line ∷ more → bytes ≡ written line rest
+pub along_more : (r : Readable) (lines left more : List Line) (line : Line) (text rest bytes after masked longer : List ℕ)
+    → Along r lines text left rest masked → left ≡ line ∷ more → bytes ≡ written line rest
     → after ≡ drop (length (written line rest)) rest
-    → ((block : List ℕ) × IsBlock noted line bytes block × (longer ≡ masked ++ block)) → Along noted lines text more after longer
-along_more noted lines left more line text rest bytes after masked longer along cut front back (block, is, pushed) = λ tail are.
-    let all : AreBlocks noted (line ∷ more) rest (block ++ tail) =
-    block_before noted line more bytes rest after block tail front back is are in
-    let whole : AreBlocks noted lines text (masked ++ (block ++ tail)) =
-    along (block ++ tail) (subst (λ (ls : List Line). AreBlocks noted ls rest (block ++ tail)) (sym cut) all) in
+    → ((block : List ℕ) × IsBlock r line bytes block × (longer ≡ masked ++ block)) → Along r lines text more after longer
+along_more r lines left more line text rest bytes after masked longer along cut front back (block, is, pushed) = λ tail are.
+    let all : AreBlocks r (line ∷ more) rest (block ++ tail) =
+    block_before r line more bytes rest after block tail front back is are in
+    let whole : AreBlocks r lines text (masked ++ (block ++ tail)) =
+    along (block ++ tail) (subst (λ (ls : List Line). AreBlocks r ls rest (block ++ tail)) (sym cut) all) in
     let same : masked ++ (block ++ tail) ≡ longer ++ tail =
     sym (append_assoc masked block tail) ∙ ap (λ (xs : List ℕ). xs ++ tail) (sym pushed) in
-    subst (λ (xs : List ℕ). AreBlocks noted lines text xs) same whole
+    subst (λ (xs : List ℕ). AreBlocks r lines text xs) same whole

@@ -1,8 +1,8 @@
 -- The places of forms.
-use Rattle.std.proofs.Common.{◌≡◌, ℕ, zero, suc, ◌+◌, ◌-◌, ◌<◌, ◌≤◌, Bool, true, false, not, List, []}
+use Rattle.std.proofs.Common.{◌≡◌, ℕ, zero, suc, ◌+◌, ◌-◌, ◌<◌, ◌≤◌, Bool, true, false, not, List, [], ◌∷◌}
 use Rattle.std.proofs.Common.{length, drop, refl, sym, ◌∙◌, subst}
 use Rattle.std.proofs.Common.{Option, None, Some, inl, inr, arith}
-use Rattle.std.specs.Prelude.{◌&&◌, ◌==◌, codes, nat_eq, nat_lt, slice_index, MatchOption}
+use Rattle.std.specs.Prelude.{◌&&◌, ◌==◌, if◌then◌else◌, codes, nat_eq, nat_lt, slice_index, MatchOption}
 use Rattle.sudo_text.specs.Rules.{begins_defaults}
 use Rattle.std.specs.List.{starts_with, take_while}
 use Rattle.std.proofs.lemmas.Bool.{cases_lt, and_parts, true≢false}
@@ -13,7 +13,10 @@ use Rattle.sudo_text.specs.Pieces.{skip}
 use Rattle.sudo_grammar.specs.Words.{is_name_byte}
 use Rattle.sudo_grammar.specs.declared.fault.Unsupported.{Unsupported}
 use Rattle.sudo_grammar.specs.declared.fault.Unsupported.TheVariants as forms
+use Rattle.audit_files.specs.declared.netgroups.Triple.{Triple}
 use Rattle.review_texts.specs.declared.mask.Mask.{Mask}
+use Rattle.review_texts.specs.declared.readable.Readable.{Readable}
+use Rattle.review_texts.specs.Netgroups.{ends_name, is_known, netgroup_at, plus_at, spells_netgroup}
 use Rattle.review_texts.specs.Digests.{digest_size, digest_start, digest_at, digest_stop, is_digest}
 use Rattle.review_texts.specs.Digests.{may_follow as digest_may_follow, spells_digest}
 use Rattle.review_texts.specs.Options.{is_option, name_at, equals_of, value_of, value_at, option_end, takes, spells_option}
@@ -66,61 +69,79 @@ no_digest text at none spelled =
     subst (λ (xs : List ℕ). nat_lt 0 (digest_size xs) ≡ true) none third.0 in
     true≢false (sym empty)
 
-no_stand : (noted : Bool) (line : Line) (form : Unsupported) (start end : ℕ) → drop start line.text ≡ []
-    → Stands noted line form start end → ⊥
-no_stand noted line forms.CommandOption start end none stands = no_option noted line.text start none stands.0.spelled
-no_stand noted line forms.List start end none stands = no_list line.text start none stands.0.spelled
-no_stand noted line forms.Digest start end none stands = no_digest line.text start none stands.1.spelled
-no_stand noted line _ start end none stands = stands
+past_end : (text : List ℕ) (at : ℕ) → drop at text ≡ [] → slice_index text at ≡ 0
+past_end [] zero none = refl
+past_end [] (suc at) none = refl
+past_end (b ∷ text) zero none = cc
+past_end (b ∷ text) (suc at) none = past_end text at none
+
+no_netgroup : (known : List Triple) (text : List ℕ) (at : ℕ) → drop at text ≡ [] → spells_netgroup known text at ≡ true → ⊥
+unfolding spells_netgroup
+no_netgroup known text at none spelled =
+    let first = and_parts ((slice_index text (plus_at text at) == 43) && ends_name text at) (is_known known (netgroup_at text at))
+    spelled in
+    let second = and_parts (slice_index text (plus_at text at) == 43) (ends_name text at) first.0 in
+    let here : (slice_index text at == 43) ≡ true = subst
+    (λ (b : ℕ). (slice_index text (if b == 34 then at + 1 else at) == 43) ≡ true) (past_end text at none) second.0 in
+    let empty : (0 == 43) ≡ true = subst (λ (b : ℕ). (b == 43) ≡ true) (past_end text at none) here in
+    true≢false (sym empty)
+
+no_stand : (r : Readable) (line : Line) (form : Unsupported) (start end : ℕ) (put : List ℕ) → drop start line.text ≡ []
+    → Stands r line form start end put → ⊥
+no_stand r line forms.CommandOption start end put none stands = no_option r.noted line.text start none stands.0.spelled
+no_stand r line forms.List start end put none stands = no_list line.text start none stands.0.spelled
+no_stand r line forms.Digest start end put none stands = no_digest line.text start none stands.1.spelled
+no_stand r line forms.Netgroup start end put none stands = no_netgroup r.netgroups.items line.text start none stands.0.spelled
+no_stand r line _ start end put none stands = stands
 
 -- A form stands within the line.
-pub stands_within : (noted : Bool) (line : Line) (form : Unsupported) (start end : ℕ) → Stands noted line form start end
+pub stands_within : (r : Readable) (line : Line) (form : Unsupported) (start end : ℕ) (put : List ℕ) → Stands r line form start end put
     → start < length line.text
-stands_within noted line form start end stands = elim (cases_lt start (length line.text)) [
+stands_within r line form start end put stands = elim (cases_lt start (length line.text)) [
   | inl below ↦ below
-  | inr past ↦ absurd (no_stand noted line form start end (drop_of_length-le line.text past) stands)
+  | inr past ↦ absurd (no_stand r line form start end put (drop_of_length-le line.text past) stands)
 ]
 
 -- The masks of a line, by what it is refused for.
-pub unfit : (noted : Bool) (line : Line) → is_fit line ≡ false → IsUnmasked noted line
-unfit noted line bad mask is = true≢false (sym is.fit ∙ bad)
+pub unfit : (r : Readable) (line : Line) → is_fit line ≡ false → IsUnmasked r line
+unfit r line bad mask is = true≢false (sym is.fit ∙ bad)
 
-pub unrefused : (noted : Bool) (line : Line) → ((form : Unsupported) → IsRefusedFor line form → ⊥) → IsUnmasked noted line
-unrefused noted line none mask is = none mask.form is.refused
+pub unrefused : (r : Readable) (line : Line) → ((form : Unsupported) → IsRefusedFor line form → ⊥) → IsUnmasked r line
+unrefused r line none mask is = none mask.form is.refused
 
-abbrev pub FoundStand : Bool → Line → Unsupported → Option Mask → Type 0
-FoundStand noted line form found =
-    MatchOption found ((start end : ℕ) → Stands noted line form start end → ⊥) (λ mask. IsFirstStand noted line form mask)
+abbrev pub FoundStand : Readable → Line → Unsupported → Option Mask → Type 0
+FoundStand r line form found =
+    MatchOption found ((start end : ℕ) (put : List ℕ) → Stands r line form start end put → ⊥) (λ mask. IsFirstStand r line form mask)
 
-pub masked_by : (noted : Bool) (line : Line) (form : Unsupported) (found : Option Mask) → is_fit line ≡ true → IsRefusedFor line form
-    → FoundStand noted line form found → MatchOption found (IsUnmasked noted line) (λ mask. IsMask noted line mask)
-masked_by noted line form None fit refused none = λ mask is.
+pub masked_by : (r : Readable) (line : Line) (form : Unsupported) (found : Option Mask) → is_fit line ≡ true → IsRefusedFor line form
+    → FoundStand r line form found → MatchOption found (IsUnmasked r line) (λ mask. IsMask r line mask)
+masked_by r line form None fit refused none = λ mask is.
     let same : mask.form ≡ form = one_form line mask.form form is.refused refused in
-    none mask.start mask.end (subst (λ f. Stands noted line f mask.start mask.end) same is.stands.stands)
-masked_by noted line form (Some mask) fit refused stand = record {
+    none mask.start mask.end mask.put (subst (λ f. Stands r line f mask.start mask.end mask.put) same is.stands.stands)
+masked_by r line form (Some mask) fit refused stand = record {
   fit = fit;
   refused = subst (IsRefusedFor line) (sym stand.named) refused;
-  stands = subst (λ f. IsFirstStand noted line f mask) (sym stand.named) stand;
+  stands = subst (λ f. IsFirstStand r line f mask) (sym stand.named) stand;
 }
 
 -- A mask begins within the line.
-pub mask_within : (noted : Bool) (line : Line) (mask : Mask) → IsMask noted line mask → mask.start ≤ length line.text
-mask_within noted line mask is = let below = stands_within noted line mask.form mask.start mask.end is.stands.stands in omega arith
+pub mask_within : (r : Readable) (line : Line) (mask : Mask) → IsMask r line mask → mask.start ≤ length line.text
+mask_within r line mask is = let below = stands_within r line mask.form mask.start mask.end mask.put is.stands.stands in omega arith
 
 -- One mask, and then as many fewer.
-pub behind_none : (noted : Bool) (line : Line) → IsBehind noted 0 line line
+pub behind_none : (r : Readable) (line : Line) → IsBehind r 0 line line
 unfolding IsBehind
-behind_none noted line = refl
+behind_none r line = refl
 
-pub behind_unmasked : (noted : Bool) (n : ℕ) (line : Line) → IsUnmasked noted line → IsBehind noted n line line
+pub behind_unmasked : (r : Readable) (n : ℕ) (line : Line) → IsUnmasked r line → IsBehind r n line line
 unfolding IsBehind
-behind_unmasked noted zero line none = refl
-behind_unmasked noted (suc n) line none = inl (none, refl)
+behind_unmasked r zero line none = refl
+behind_unmasked r (suc n) line none = inl (none, refl)
 
-pub behind_more : (noted : Bool) (n left : ℕ) (line masked : Line) (mask : Mask) → IsMask noted line mask → left + 1 ≡ n
-    → IsBehind noted left (behind line mask) masked → IsBehind noted n line masked
+pub behind_more : (r : Readable) (n left : ℕ) (line masked : Line) (mask : Mask) → IsMask r line mask → left + 1 ≡ n
+    → IsBehind r left (behind line mask) masked → IsBehind r n line masked
 unfolding IsBehind
-behind_more noted n left line masked mask is next rest =
+behind_more r n left line masked mask is next rest =
     let same : suc left ≡ n = omega arith in
-    let more : IsBehind noted (suc left) line masked = inr (mask, is, rest) in
-    subst (λ (k : ℕ). IsBehind noted k line masked) same more
+    let more : IsBehind r (suc left) line masked = inr (mask, is, rest) in
+    subst (λ (k : ℕ). IsBehind r k line masked) same more

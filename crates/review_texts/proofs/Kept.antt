@@ -10,6 +10,7 @@ use Rattle.sudo_grammar.specs.declared.policy.EntryBody.{EntryBody}
 use Rattle.sudo_grammar.specs.declared.policy.EntryBody.TheVariants as entries
 use Rattle.sudo_grammar.specs.Faults.{HasRoom}
 use Rattle.sudo_parser.specs.Parsed.{room_after, IsEntryOf, entry_of, AreEntriesAfter, AreEntries}
+use Rattle.review_texts.specs.declared.readable.Readable.{Readable}
 use Rattle.review_texts.specs.Places.{whole_room}
 use Rattle.review_texts.specs.Masks.{IsUnmasked}
 use Rattle.review_texts.specs.MaskedTexts.{written, HasEntries, IsBlock, AreBlocks, IsTextBy, IsMaskedBy, IsMaskedText}
@@ -31,9 +32,9 @@ read_alone before line (Some entry) (t, ts, spelled, writes) =
     (t, ts, spelled, (writes.0, whole_fits before entry writes.1))
 
 -- A line that is read has no mask.
-unmasked : (noted : Bool) (before : List Entry) (line : Line) (entry : Option EntryBody)
-    → IsEntryOf (room_after before) line entry → IsUnmasked noted line
-unmasked noted before line entry is mask masks =
+unmasked : (r : Readable) (before : List Entry) (line : Line) (entry : Option EntryBody)
+    → IsEntryOf (room_after before) line entry → IsUnmasked r line
+unmasked r before line entry is mask masks =
     read_unrefused line (entry_of line entry ++ []) mask.form
     (entry, [], read_alone before line entry is, refl, refl) masks.refused
 
@@ -41,28 +42,28 @@ has_entries : (before : List Entry) (line : Line) (entry : Option EntryBody) →
     → HasEntries line
 has_entries before line entry is = (entry_of line entry ++ [], (entry, [], read_alone before line entry is, refl, refl))
 
-block_kept : (noted : Bool) (line : Line) (bytes block : List ℕ) → IsUnmasked noted line → HasEntries line
-    → IsBlock noted line bytes block → block ≡ bytes
-block_kept noted line bytes block none read (inl (other, inl ((torn, plain, (unread, spaced)), same))) = absurd (unread read)
-block_kept noted line bytes block none read (inl (other, inr kept)) = kept.1
-block_kept noted line bytes block none read (inr (masked, (mask, is, rest), whole)) = absurd (none mask is)
+block_kept : (r : Readable) (line : Line) (bytes block : List ℕ) → IsUnmasked r line → HasEntries line
+    → IsBlock r line bytes block → block ≡ bytes
+block_kept r line bytes block none read (inl (other, inl ((torn, plain, (unread, spaced)), same))) = absurd (unread read)
+block_kept r line bytes block none read (inl (other, inr kept)) = kept.1
+block_kept r line bytes block none read (inr (masked, (mask, is, rest), whole)) = absurd (none mask is)
 
-blocks_kept : (noted : Bool) (before : List Entry) (lines : List Line) (entries : List Entry) (text masked : List ℕ)
-    → AreEntriesAfter before lines entries → AreBlocks noted lines text masked → masked ≡ text
-blocks_kept noted before [] entries text masked are blocks = blocks
-blocks_kept noted before (line ∷ lines) entries text masked (entry, rest, is, are, whole) (block, tail, first, others, joined) =
-    let kept : block ≡ written line text = block_kept noted line (written line text) block (unmasked noted before line entry is)
+blocks_kept : (r : Readable) (before : List Entry) (lines : List Line) (entries : List Entry) (text masked : List ℕ)
+    → AreEntriesAfter before lines entries → AreBlocks r lines text masked → masked ≡ text
+blocks_kept r before [] entries text masked are blocks = blocks
+blocks_kept r before (line ∷ lines) entries text masked (entry, rest, is, are, whole) (block, tail, first, others, joined) =
+    let kept : block ≡ written line text = block_kept r line (written line text) block (unmasked r before line entry is)
     (has_entries before line entry is) first in
     let after : tail ≡ drop (length (written line text)) text =
-    blocks_kept noted (before ++ entry_of line entry) lines rest (drop (length (written line text)) text) tail are others in
+    blocks_kept r (before ++ entry_of line entry) lines rest (drop (length (written line text)) text) tail are others in
     let front : written line text ≡ take (length (written line text)) text = sym (take_written (suc (length line.joins)) text) in
     joined ∙ (ap (λ (b : List ℕ). b ++ tail) (kept ∙ front) ∙ (ap (λ (r : List ℕ). take (length (written line text)) text ++ r) after
     ∙ take-append-drop (length (written line text)) text))
 
-pub text_kept : (noted : Bool) (text masked : List ℕ) (lines : List Line) (entries : List Entry) → lines_of 0 text ≡ Ok lines
-    → AreEntries lines entries → IsMaskedText noted text masked → masked ≡ text
-text_kept noted text masked lines entries cut are is = by (has_word text) is
+pub text_kept : (r : Readable) (text masked : List ℕ) (lines : List Line) (entries : List Entry) → lines_of 0 text ≡ Ok lines
+    → AreEntries lines entries → IsMaskedText r text masked → masked ≡ text
+text_kept r text masked lines entries cut are is = by (has_word text) is
   where
-    by : (t : Bool) → IsMaskedBy noted t text masked → masked ≡ text
-    by true is = blocks_kept noted [] lines entries text masked are (subst (λ r. IsTextBy noted r text masked) cut is)
+    by : (t : Bool) → IsMaskedBy r t text masked → masked ≡ text
+    by true is = blocks_kept r [] lines entries text masked are (subst (λ found. IsTextBy r found text masked) cut is)
     by false same = same

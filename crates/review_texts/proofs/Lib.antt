@@ -1,5 +1,6 @@
 pub mod Fronts
 pub mod LoneLines
+pub mod MemberLists
 pub mod FormPlaces
 pub mod Blocks
 pub mod Kept

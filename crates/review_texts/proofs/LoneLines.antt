@@ -1,7 +1,7 @@
 -- What the parser says of a line that stands alone.
-use Rattle.std.proofs.Common.{◌≡◌, ℕ, Bool, true, List, [], ◌∷◌, ◌++◌, refl, sym, ◌∙◌, ap, subst, Option}
+use Rattle.std.proofs.Common.{◌≡◌, ℕ, ◌+◌, Bool, true, List, [], ◌∷◌, ◌++◌, refl, sym, ◌∙◌, ap, subst, Option}
 use Rattle.std.proofs.Common.{None, Some, inl, inr}
-use Rattle.std.specs.Prelude.{MatchOption}
+use Rattle.std.specs.Prelude.{Decides, MatchOption}
 use Rattle.sudo_text.specs.declared.line.Line.{Line}
 use Rattle.sudo_text.specs.declared.line.Place.{Place}
 use Rattle.sudo_grammar.specs.declared.policy.Entry.{Entry}
@@ -13,7 +13,7 @@ use Rattle.sudo_grammar.specs.declared.fault.Refusal.TheVariants as refusals
 use Rattle.sudo_grammar.specs.declared.fault.Unsupported.{Unsupported}
 use Rattle.sudo_parser.specs.Parsed.{AreEntries, IsFirstFault, IsGrammarFaultOf, fault_at, column}
 use Rattle.sudo_parser.proofs.OneReading.{one_entries, one_first_fault, entries-no-fault}
-use Rattle.review_texts.specs.Places.{whole_room, IsEntryIn, IsRefusedFor}
+use Rattle.review_texts.specs.Places.{whole_room, IsBadNumberAt, IsEntryIn, IsRefusedFor}
 
 -- The entries of a line that stands alone.
 pub entries_of : (line : Line) (entry : EntryBody) → IsEntryIn line entry
@@ -73,6 +73,42 @@ refused line place form (inl (inr grammar)) =
     let at : place ≡ line.first = placed line.first place (column line grammar.stop.rest) form grammar.stop.refusal grammar.is in
     subst (λ p. IsGrammarFaultOf whole_room line (faults.Unsupported p form)) at grammar
 refused line place form (inr (entry, says, never)) = absurd never
+
+-- The refusal of a number in a line that stands alone.
+pub bad_number_of : (line : Line) (at : ℕ) → IsBadNumberAt line at → IsFirstFault (line ∷ []) (faults.BadNumber line.first (at + 1))
+bad_number_of line at is = inl (inr is)
+
+numbered : (first place : Place) (col at : ℕ) (refusal : Refusal) → faults.BadNumber place at ≡ fault_at first col refusal
+    → place ≡ first
+numbered first place col at (refusals.Syntax expected) e = cc
+numbered first place col at (refusals.Unsupported what) e = cc
+numbered first place col at refusals.NotCommand e = cc
+numbered first place col at refusals.BadNumber e = cc
+numbered first place col at refusals.TooMany e = cc
+
+pub bad_number : (line : Line) (place : Place) (at : ℕ) → IsFirstFault (line ∷ []) (faults.BadNumber place (at + 1))
+    → IsBadNumberAt line at
+bad_number line place at (inl (inl text)) = let e = text.is in absurd cc
+bad_number line place at (inl (inr grammar)) =
+    let same : place ≡ line.first =
+    numbered line.first place (column line grammar.stop.rest) (at + 1) grammar.stop.refusal grammar.is in
+    subst (λ p. IsGrammarFaultOf whole_room line (faults.BadNumber p (at + 1))) same grammar
+bad_number line place at (inr (entry, says, never)) = absurd never
+
+-- What a call that looks for one says, by the fault of the line.
+pub number_found : (line : Line) (fault : ParseFault) (at : ℕ) (is : Bool) → IsFirstFault (line ∷ []) fault
+    → Decides is ((place : Place) × (fault ≡ faults.BadNumber place (at + 1))) → Decides is (IsBadNumberAt line at)
+number_found line fault at is first found = (
+  λ yes. let there = found.0 yes in bad_number line there.0 at (subst (IsFirstFault (line ∷ [])) there.1 first),
+  λ refused. found.1 (
+    line.first,
+    one_first_fault [] (line ∷ []) fault (faults.BadNumber line.first (at + 1)) first (bad_number_of line at refused),
+  ),
+)
+
+pub read_no_number : (line : Line) (entries : List Entry) (at : ℕ) → AreEntries (line ∷ []) entries → IsBadNumberAt line at → ⊥
+read_no_number line entries at are refused =
+    entries-no-fault [] (line ∷ []) entries (faults.BadNumber line.first (at + 1)) are (bad_number_of line at refused)
 
 pub same_fault : (line : Line) (fault : ParseFault) (form : Unsupported) → IsFirstFault (line ∷ []) fault → IsRefusedFor line form
     → fault ≡ faults.Unsupported line.first form

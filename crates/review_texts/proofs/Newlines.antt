@@ -2,9 +2,10 @@
 use Rattle.std.proofs.Common.{◌≡◌, ℕ, zero, suc, ◌+◌, ◌-◌, Bool, true, false, cond, List, [], ◌∷◌, ◌++◌}
 use Rattle.std.proofs.Common.{length, drop, take, refl, sym, ◌∙◌, ap, subst, arith}
 use Rattle.std.proofs.Common.{Result, Ok, Err, Option, None, Some, inl, inr}
-use Rattle.std.specs.Prelude.{◌==◌, ◌&&◌, replicate, nat_le, nat_lt, nat_eq, codes}
-use Rattle.std.specs.List.{starts_with}
-use Rattle.std.proofs.lemmas.Bool.{and_parts, eqb-true}
+use Rattle.std.specs.Prelude.{◌==◌, ◌&&◌, not, replicate, nat_le, nat_lt, nat_eq, codes, filter}
+use Rattle.std.specs.Str.{bytes_eq}
+use Rattle.std.specs.List.{prefix_len, starts_with, take_while}
+use Rattle.std.proofs.lemmas.Bool.{and_parts, eqb-true, true≢false}
 use Rattle.std.proofs.lemmas.List.{take-append-drop}
 use Rattle.std.proofs.lemmas.List.Sums.{sum_by-append}
 use Rattle.sudo_text.specs.declared.line.Line.{Line}
@@ -12,14 +13,17 @@ use Rattle.sudo_text.specs.declared.fault.TextFault.{TextFault}
 use Rattle.sudo_text.specs.Lines.{lines_of, text_limit}
 use Rattle.sudo_grammar.specs.declared.fault.Unsupported.{Unsupported}
 use Rattle.sudo_grammar.specs.declared.fault.Unsupported.TheVariants as forms
+use Rattle.review_texts.specs.declared.readable.Readable.{Readable}
 use Rattle.review_texts.specs.declared.mask.Mask.{Mask}
 use Rattle.review_texts.specs.declared.note.Note.{Note}
 use Rattle.review_texts.specs.declared.note.Note.TheVariants.{Digest, Time, Chroot}
-use Rattle.review_texts.specs.Options.{name_at}
-use Rattle.review_texts.specs.Masks.{are_alike, is_fit, newline_count, option_note, note_text, stand_in, replacement}
-use Rattle.review_texts.specs.Masks.{behind, IsBehind, IsMasked, most_masks}
+use Rattle.review_texts.specs.Notes.{note_path}
+use Rattle.review_texts.specs.Digests.{digest_at, digest_start, is_base64}
+use Rattle.review_texts.specs.Options.{is_value_byte, name_at, value_at, value_of}
+use Rattle.review_texts.specs.Masks.{are_alike, is_fit, option_note, note_text, noted_letter, noted_option, replacement, Stands}
+use Rattle.review_texts.specs.Masks.{behind, IsBehind, IsMask, IsMasked, most_masks}
 use Rattle.review_texts.specs.MaskedTexts.{written, tears_defaults, spaced, IsBlock, AreBlocks, IsTextBy, IsMaskedBy, IsMaskedText}
-use Rattle.review_texts.specs.Words.{has_word}
+use Rattle.review_texts.specs.Words.{has_word, newline_count}
 use Rattle.review_texts.specs.Laws.{StaysBy}
 use Rattle.review_texts.proofs.Blocks.{take_written}
 
@@ -37,56 +41,118 @@ count_newlines (suc n) =
     let rest = count_newlines n in
     omega (arith, joined, rest)
 
-count_note : (note : Option Note) → newline_count (note_text note) ≡ 0
-count_note None = refl
-count_note (Some Digest) = refl
-count_note (Some Time) = refl
-count_note (Some Chroot) = refl
+-- ---- What stands in place of a form has no newline
 
-count_stand_in : (form : Unsupported) (text : List ℕ) (start : ℕ) → newline_count (stand_in form text start) ≡ 0
-count_stand_in forms.CommandOption text start = count_note (option_note (name_at text start))
-count_stand_in forms.List text start = refl
-count_stand_in forms.Digest text start = refl
-count_stand_in _ text start = refl
+not_newline : (p : ℕ → Bool) (x : ℕ) → p 10 ≡ false → p x ≡ true → (x == 10) ≡ false
+not_newline p x none passes = by (x == 10) refl
+  where
+    by : (b : Bool) → (x == 10) ≡ b → (x == 10) ≡ false
+    by true e = absurd (true≢false (sym passes ∙ ap p (eqb-true x 10 e) ∙ none))
+    by false e = e
 
-count_replaced : (text : List ℕ) (mask : Mask) → newline_count (replacement text mask) ≡ 0
-count_replaced text mask =
-    let put : List ℕ = stand_in mask.form text mask.start in
-    let front = count_stand_in mask.form text mask.start in
-    let back = count_blanks (mask.end - mask.start - length put) in
-    let joined = count_append put (replicate (mask.end - mask.start - length put) 32) in
+count_one : (x : ℕ) → (x == 10) ≡ false → newline_count (x ∷ []) ≡ 0
+count_one x other = ap (λ (is : Bool). 0 + cond {A = ℕ} is 1 0) other
+
+count_front : (p : ℕ → Bool) (xs : List ℕ) → p 10 ≡ false → newline_count (take_while p xs) ≡ 0
+count_front p [] none = refl
+count_front p (x ∷ xs) none = by (p x) refl (count_front p xs none)
+  where
+    by : (b : Bool) → p x ≡ b → newline_count (take_while p xs) ≡ 0 → newline_count (take (cond b (1 + prefix_len p xs) 0) (x ∷ xs)) ≡ 0
+    by true e rest =
+        let here = count_one x (not_newline p x none e) in
+        let one : 1 + prefix_len p xs ≡ suc (prefix_len p xs) = omega arith in
+        ap (λ (n : ℕ). newline_count (take n (x ∷ xs))) one
+        ∙ count_append (x ∷ []) (take_while p xs) ∙ (omega (arith, here, rest))
+    by false e rest = refl
+
+count_kept : (p : ℕ → Bool) (xs : List ℕ) → newline_count xs ≡ 0 → newline_count (filter p xs) ≡ 0
+count_kept p [] none = refl
+count_kept p (x ∷ xs) none =
+    let whole = count_append (x ∷ []) xs in
+    by (p x) (omega (arith, none, whole)) (count_kept p xs (omega (arith, none, whole)))
+  where
+    by : (b : Bool) → newline_count (x ∷ []) ≡ 0 → newline_count (filter p xs) ≡ 0 → newline_count (cond b (x ∷ filter p xs) (filter p xs)) ≡ 0
+    by true here rest = count_append (x ∷ []) (filter p xs) ∙ (omega (arith, here, rest))
+    by false here rest = rest
+
+count_path : (note : Note) → newline_count (note_path note) ≡ 0
+count_path Digest = refl
+count_path Time = refl
+count_path Chroot = refl
+
+count_note : (note : Note) (what : List ℕ) → newline_count what ≡ 0 → newline_count (note_text note what) ≡ 0
+count_note note what none =
+    let path = count_path note in
+    let outer = count_append (note_path note) (what ++ 44 ∷ []) in
+    let inner = count_append what (44 ∷ []) in
+    omega (arith, none, path, outer, inner)
+
+count_letter : (w : List ℕ) → newline_count (noted_letter w) ≡ 0
+count_letter w = by (bytes_eq w (codes "NOTBEFORE")) (bytes_eq w (codes "NOTAFTER"))
+  where
+    by : (first last : Bool) → newline_count (cond first (codes "b") (cond last (codes "a") [])) ≡ 0
+    by true last = refl
+    by false true = refl
+    by false false = refl
+
+count_option : (note : Option Note) (w value : List ℕ) → newline_count value ≡ 0 → newline_count (noted_option note w value) ≡ 0
+count_option None w value none = refl
+count_option (Some note) w value none =
+    let letter = count_letter w in
+    let joined = count_append (noted_letter w) value in
+    count_note note (noted_letter w ++ value) (omega (arith, none, letter, joined))
+
+count_put : (r : Readable) (line : Line) (form : Unsupported) (start end : ℕ) (put : List ℕ) → Stands r line form start end put
+    → newline_count put ≡ 0
+count_put r line forms.CommandOption start end put stands =
+    let value = value_at line.text (value_of line.text start) in
+    ap newline_count stands.2 ∙ count_option (option_note (name_at line.text start)) (name_at line.text start) value
+    (count_front is_value_byte (drop (value_of line.text start) line.text) refl)
+count_put r line forms.List start end put stands = ap newline_count stands.2
+count_put r line forms.Digest start end put stands =
+    let digest = digest_at line.text (digest_start line.text start) in
+    ap newline_count stands.3 ∙ count_note Digest (filter (λ b. not (b == 61)) digest) (count_kept (λ b. not (b == 61)) digest
+    (count_front is_base64 (drop (digest_start line.text start) line.text) refl))
+count_put r line forms.Netgroup start end put stands = stands.0.one_line
+count_put r line _ start end put stands = absurd stands
+
+count_replaced : (mask : Mask) → newline_count mask.put ≡ 0 → newline_count (replacement mask) ≡ 0
+count_replaced mask front =
+    let back = count_blanks (mask.end - mask.start - length mask.put) in
+    let joined = count_append mask.put (replicate (mask.end - mask.start - length mask.put) 32) in
     omega (arith, front, back, joined)
 
 -- A line without a newline has none behind a mask.
-behind_count : (line : Line) (mask : Mask) → newline_count line.text ≡ 0 → newline_count (behind line mask).text ≡ 0
-behind_count line mask none =
-    let put : List ℕ = replacement line.text mask in
+behind_count : (r : Readable) (line : Line) (mask : Mask) → newline_count line.text ≡ 0 → IsMask r line mask
+    → newline_count (behind line mask).text ≡ 0
+behind_count r line mask none is =
+    let put : List ℕ = replacement mask in
     let front = count_append (take mask.start line.text) (drop mask.start line.text) in
     let back = count_append (take mask.end line.text) (drop mask.end line.text) in
     let first = ap (λ (xs : List ℕ). newline_count xs) (take-append-drop mask.start line.text) in
     let second = ap (λ (xs : List ℕ). newline_count xs) (take-append-drop mask.end line.text) in
     let outer = count_append (take mask.start line.text) (put ++ drop mask.end line.text) in
     let inner = count_append put (drop mask.end line.text) in
-    let middle = count_replaced line.text mask in
+    let middle = count_replaced mask (count_put r line mask.form mask.start mask.end mask.put is.stands.stands) in
     omega (arith, front, back, first, second, outer, inner, middle)
 
-all_behind : (noted : Bool) (n : ℕ) (line masked : Line) → newline_count line.text ≡ 0 → IsBehind noted n line masked
+all_behind : (r : Readable) (n : ℕ) (line masked : Line) → newline_count line.text ≡ 0 → IsBehind r n line masked
     → newline_count masked.text ≡ 0
 unfolding IsBehind
-all_behind noted zero line masked none is = ap (λ (l : Line). newline_count l.text) is ∙ none
-all_behind noted (suc n) line masked none (inl kept) = ap (λ (l : Line). newline_count l.text) kept.1 ∙ none
-all_behind noted (suc n) line masked none (inr (mask, is, rest)) =
-    all_behind noted n (behind line mask) masked (behind_count line mask none) rest
+all_behind r zero line masked none is = ap (λ (l : Line). newline_count l.text) is ∙ none
+all_behind r (suc n) line masked none (inl kept) = ap (λ (l : Line). newline_count l.text) kept.1 ∙ none
+all_behind r (suc n) line masked none (inr (mask, is, rest)) =
+    all_behind r n (behind line mask) masked (behind_count r line mask none is) rest
 
 fit_count : (line : Line) → is_fit line ≡ true → newline_count line.text ≡ 0
 fit_count line fit =
-    let parts = and_parts (has_word line.text && are_alike line.text line.joins && nat_le (length line.text) (text_limit - 8))
+    let parts = and_parts (has_word line.text && are_alike line.text line.joins && nat_le (length line.text) (text_limit - 16))
     (newline_count line.text == 0) fit in
     eqb-true (newline_count line.text) 0 parts.1
 
-masked_count : (noted : Bool) (line masked : Line) → IsMasked noted line masked → newline_count masked.text ≡ 0
-masked_count noted line masked (mask, is, rest) =
-    all_behind noted most_masks (behind line mask) masked (behind_count line mask (fit_count line is.fit)) rest
+masked_count : (r : Readable) (line masked : Line) → IsMasked r line masked → newline_count masked.text ≡ 0
+masked_count r line masked (mask, is, rest) =
+    all_behind r most_masks (behind line mask) masked (behind_count r line mask (fit_count line is.fit) is) rest
 
 torn_count : (text joins : List ℕ) → tears_defaults text joins ≡ true → newline_count text ≡ 0
 torn_count text [] torn = absurd cc
@@ -103,29 +169,29 @@ spaced_count line none =
     let put = count_append (take 8 line.text) (32 ∷ drop 8 line.text) in
     omega (arith, none, whole, cut, put)
 
-block_count : (noted : Bool) (line : Line) (bytes block : List ℕ) → IsBlock noted line bytes block
+block_count : (r : Readable) (line : Line) (bytes block : List ℕ) → IsBlock r line bytes block
     → newline_count block ≡ newline_count bytes
-block_count noted line bytes block (inl (none, inr kept)) = ap (λ (xs : List ℕ). newline_count xs) kept.1
-block_count noted line bytes block (inl (none, inl spaces)) =
+block_count r line bytes block (inl (none, inr kept)) = ap (λ (xs : List ℕ). newline_count xs) kept.1
+block_count r line bytes block (inl (none, inl spaces)) =
     let text = spaced_count line (torn_count line.text line.joins spaces.0.0) in
     let joined = count_append (spaced line).text (replicate (newline_count bytes) 10) in
     let more = count_newlines (newline_count bytes) in
     ap (λ (xs : List ℕ). newline_count xs) spaces.1 ∙ (omega (arith, joined, text, more))
-block_count noted line bytes block (inr (masked, is, inr kept)) = ap (λ (xs : List ℕ). newline_count xs) kept.1
-block_count noted line bytes block (inr (masked, is, inl stands)) =
-    let none = masked_count noted line masked is in
+block_count r line bytes block (inr (masked, is, inr kept)) = ap (λ (xs : List ℕ). newline_count xs) kept.1
+block_count r line bytes block (inr (masked, is, inl stands)) =
+    let none = masked_count r line masked is in
     let joined = count_append masked.text (replicate (newline_count bytes) 10) in
     let more = count_newlines (newline_count bytes) in
     ap (λ (xs : List ℕ). newline_count xs) stands.1 ∙ (omega (arith, joined, none, more))
 
-blocks_stay : (noted : Bool) (lines : List Line) (text masked : List ℕ) → AreBlocks noted lines text masked → StaysBy lines text masked
-blocks_stay noted [] text masked are = are
-blocks_stay noted (line ∷ lines) text masked (block, rest, is, are, whole) = (
+blocks_stay : (r : Readable) (lines : List Line) (text masked : List ℕ) → AreBlocks r lines text masked → StaysBy lines text masked
+blocks_stay r [] text masked are = are
+blocks_stay r (line ∷ lines) text masked (block, rest, is, are, whole) = (
   block,
   rest,
-  block_count noted line (written line text) block is,
+  block_count r line (written line text) block is,
   whole,
-  blocks_stay noted lines (drop (length (written line text)) text) rest are,
+  blocks_stay r lines (drop (length (written line text)) text) rest are,
 )
 
 stays_count : (lines : List Line) (text masked : List ℕ) → StaysBy lines text masked → newline_count masked ≡ newline_count text
@@ -148,21 +214,21 @@ same_stays (line ∷ lines) text masked same =
     let rest : List ℕ = drop (length (written line text)) text in
     (written line text, rest, refl, same ∙ (sym cut ∙ ap (λ (xs : List ℕ). xs ++ rest) front), same_stays lines rest rest refl)
 
-pub text_stays : (noted : Bool) (text masked : List ℕ) (lines : List Line) → lines_of 0 text ≡ Ok lines → IsMaskedText noted text masked
+pub text_stays : (r : Readable) (text masked : List ℕ) (lines : List Line) → lines_of 0 text ≡ Ok lines → IsMaskedText r text masked
     → StaysBy lines text masked
-text_stays noted text masked lines cut is = go (has_word text) is
+text_stays r text masked lines cut is = go (has_word text) is
   where
-    go : (b : Bool) → IsMaskedBy noted b text masked → StaysBy lines text masked
-    go true is = blocks_stay noted lines text masked (subst (λ r. IsTextBy noted r text masked) cut is)
+    go : (b : Bool) → IsMaskedBy r b text masked → StaysBy lines text masked
+    go true is = blocks_stay r lines text masked (subst (λ found. IsTextBy r found text masked) cut is)
     go false same = same_stays lines text masked same
 
-pub text_count : (noted : Bool) (text masked : List ℕ) → IsMaskedText noted text masked → newline_count masked ≡ newline_count text
-text_count noted text masked is = by (has_word text) is
+pub text_count : (r : Readable) (text masked : List ℕ) → IsMaskedText r text masked → newline_count masked ≡ newline_count text
+text_count r text masked is = by (has_word text) is
   where
-    go : (r : Result (List Line) TextFault) → IsTextBy noted r text masked → newline_count masked ≡ newline_count text
-    go (Ok lines) are = stays_count lines text masked (blocks_stay noted lines text masked are)
+    go : (cut : Result (List Line) TextFault) → IsTextBy r cut text masked → newline_count masked ≡ newline_count text
+    go (Ok lines) are = stays_count lines text masked (blocks_stay r lines text masked are)
     go (Err fault) kept = ap (λ (xs : List ℕ). newline_count xs) kept
 
-    by : (b : Bool) → IsMaskedBy noted b text masked → newline_count masked ≡ newline_count text
+    by : (b : Bool) → IsMaskedBy r b text masked → newline_count masked ≡ newline_count text
     by true is = go (lines_of 0 text) is
     by false same = ap (λ (xs : List ℕ). newline_count xs) same

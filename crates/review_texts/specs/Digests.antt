@@ -72,11 +72,11 @@ may_follow text stop =
     digest_follows text (skip text stop)
     || (is_blank (slice_index text stop) && command_follows text (skip text stop))
 
--- the end of the digest, with the comma before a further one
+-- the end of the digest, with the comma before a further one, or with the blank before its command
 abbrev pub digest_end : List ℕ → ℕ → ℕ
 digest_end text at =
     if slice_index text (skip text (digest_stop text at)) == 44 then skip text (digest_stop text at) + 1
-    else digest_stop text at
+    else digest_stop text at + 1
 
 -- a digest is spelled at an offset, with a blank and a command or with a further digest behind it; not in a Defaults line
 unfoldable pub spells_digest : List ℕ → ℕ → Bool

@@ -4,6 +4,7 @@ pub mod Digests
 pub mod Places
 pub mod Masks
 pub mod Notes
+pub mod Netgroups
 pub mod MaskedTexts
 pub mod Laws
 pub mod Body

@@ -10,9 +10,10 @@ use Rattle.sudo_text.specs.declared.fault.TextFault.{TextFault}
 use Rattle.sudo_text.specs.Lines.{lines_of, text_limit}
 use Rattle.sudo_grammar.specs.declared.policy.Entry.{Entry}
 use Rattle.sudo_parser.specs.Parsed.{AreEntries}
-use Rattle.review_texts.specs.Words.{has_word}
+use Rattle.review_texts.specs.Words.{has_word, newline_count}
+use Rattle.review_texts.specs.declared.readable.Readable.{Readable}
 use Rattle.review_texts.specs.Places.{with_text}
-use Rattle.review_texts.specs.Masks.{are_alike, newline_count, IsUnmasked, IsMasked}
+use Rattle.review_texts.specs.Masks.{are_alike, IsUnmasked, IsMasked}
 
 -- the first physical lines of a text, so many, with their newlines
 unfoldable pub front_lines : ℕ → List ℕ → List ℕ
@@ -76,41 +77,41 @@ IsPlainBlock line bytes block =
     ⊎ ((MaySpace line bytes → ⊥) × (block ≡ bytes))
 
 -- what the bytes of a line become
-abbrev pub IsBlock : Bool → Line → List ℕ → List ℕ → Type 0
-IsBlock noted line bytes block =
-    (IsUnmasked noted line × IsPlainBlock line bytes block)
-    ⊎ ((masked : Line) × IsMasked noted line masked × IsBlockBy line masked bytes block)
+abbrev pub IsBlock : Readable → Line → List ℕ → List ℕ → Type 0
+IsBlock r line bytes block =
+    (IsUnmasked r line × IsPlainBlock line bytes block)
+    ⊎ ((masked : Line) × IsMasked r line masked × IsBlockBy line masked bytes block)
 
 -- what a text becomes that begins with these logical lines
-abbrev pub AreBlocks : Bool → List Line → List ℕ → List ℕ → Type 0
-AreBlocks noted [] text masked = masked ≡ text
-AreBlocks noted (line ∷ lines) text masked =
-    (block rest : List ℕ) × IsBlock noted line (written line text) block
-    × AreBlocks noted lines (drop (length (written line text)) text) rest × (masked ≡ block ++ rest)
+abbrev pub AreBlocks : Readable → List Line → List ℕ → List ℕ → Type 0
+AreBlocks r [] text masked = masked ≡ text
+AreBlocks r (line ∷ lines) text masked =
+    (block rest : List ℕ) × IsBlock r line (written line text) block
+    × AreBlocks r lines (drop (length (written line text)) text) rest × (masked ≡ block ++ rest)
 
 -- what the text becomes, by its lines; a text that has a fault before any token is read stays
-abbrev pub IsTextBy : Bool → Result (List Line) TextFault → List ℕ → List ℕ → Type 0
-IsTextBy noted (Ok lines) text masked = AreBlocks noted lines text masked
-IsTextBy noted (Err fault) text masked = masked ≡ text
+abbrev pub IsTextBy : Readable → Result (List Line) TextFault → List ℕ → List ℕ → Type 0
+IsTextBy r (Ok lines) text masked = AreBlocks r lines text masked
+IsTextBy r (Err fault) text masked = masked ≡ text
 
 -- what the text becomes, if one of the words stands in it or not
-abbrev pub IsMaskedBy : Bool → Bool → List ℕ → List ℕ → Type 0
-IsMaskedBy noted true text masked = IsTextBy noted (lines_of 0 text) text masked
-IsMaskedBy noted false text masked = masked ≡ text
+abbrev pub IsMaskedBy : Readable → Bool → List ℕ → List ℕ → Type 0
+IsMaskedBy r true text masked = IsTextBy r (lines_of 0 text) text masked
+IsMaskedBy r false text masked = masked ≡ text
 
 -- the masked text of a file
-abbrev pub IsMaskedText : Bool → List ℕ → List ℕ → Type 0
-IsMaskedText noted text masked = IsMaskedBy noted (has_word text) text masked
+abbrev pub IsMaskedText : Readable → List ℕ → List ℕ → Type 0
+IsMaskedText r text masked = IsMaskedBy r (has_word text) text masked
 
 -- the masked text of a file that may be missing
-abbrev pub IsMaskedFile : Bool → Option (List ℕ) → Option (List ℕ) → Type 0
-IsMaskedFile noted None masked = masked ≡ None
-IsMaskedFile noted (Some text) masked = (bytes : List ℕ) × IsMaskedText noted text bytes × (masked ≡ Some bytes)
+abbrev pub IsMaskedFile : Readable → Option (List ℕ) → Option (List ℕ) → Type 0
+IsMaskedFile r None masked = masked ≡ None
+IsMaskedFile r (Some text) masked = (bytes : List ℕ) × IsMaskedText r text bytes × (masked ≡ Some bytes)
 
 -- what reading files with their masked texts may give
-abbrev pub masked_holdings : Bool → Holdings → Holdings
-masked_holdings noted held = record {
-  is_file = λ path masked. (text : Option (List ℕ)) × held.is_file path text × IsMaskedFile noted text masked;
+abbrev pub masked_holdings : Readable → Holdings → Holdings
+masked_holdings r held = record {
+  is_file = λ path masked. (text : Option (List ℕ)) × held.is_file path text × IsMaskedFile r text masked;
   is_folder = held.is_folder;
   is_unreadable = held.is_unreadable;
   is_long = held.is_long;

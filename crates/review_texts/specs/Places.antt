@@ -1,7 +1,7 @@
 -- Where a form stands that is refused by name and can be masked: for each form the line up to it, with nothing or with a
 -- command in its place, is itself read, and what is read says that a command has to stand there.
 use Rattle.std.specs.Prelude.{◌≡◌, ℕ, ◌+◌, ◌-◌, Bool, true, false, ◌&&◌, ◌||◌, ◌==◌, nat_eq, nat_le, if◌then◌else◌}
-use Rattle.std.specs.Prelude.{List, [], ◌++◌, length, take, drop, slice_get, slice_index, codes, Option, None, Some}
+use Rattle.std.specs.Prelude.{List, [], ◌++◌, length, take, drop, slice_get, slice_index, codes, Option, None, Some, is_some}
 use Rattle.std.specs.List.{starts_with}
 use Rattle.std.specs.Option.{option_and_then, option_map}
 use Rattle.sudo_text.specs.declared.line.Line.{Line}
@@ -11,6 +11,7 @@ use Rattle.sudo_text.specs.Rules.{begins_defaults}
 use Rattle.sudo_grammar.specs.declared.kind.Member.{Member}
 use Rattle.sudo_grammar.specs.declared.policy.Binding.TheVariants as bindings
 use Rattle.sudo_grammar.specs.declared.policy.CommandSpec.{CommandSpec}
+use Rattle.sudo_grammar.specs.declared.policy.Runas.{Runas}
 use Rattle.sudo_grammar.specs.declared.policy.EntryBody.{EntryBody}
 use Rattle.sudo_grammar.specs.declared.policy.EntryBody.TheVariants as entries
 use Rattle.sudo_grammar.specs.declared.fault.ParseFault.TheVariants as faults
@@ -19,6 +20,11 @@ use Rattle.sudo_grammar.specs.States.{Room}
 use Rattle.sudo_parser.specs.Parsed.{room_after, IsEntryOf, IsGrammarFaultOf}
 use Rattle.review_texts.specs.Options.{name_end, spells_option}
 use Rattle.review_texts.specs.Digests.{spells_digest}
+use Rattle.review_texts.specs.Words.{newline_count}
+use Rattle.review_texts.specs.Netgroups.{list_for, netgroup_at, sign_at, spells_netgroup}
+use Rattle.review_texts.specs.declared.netgroups.Members.{Members}
+use Rattle.review_texts.specs.declared.netgroups.Members.TheVariants.{Users, Hosts}
+use Rattle.audit_files.specs.declared.netgroups.Triple.{Triple}
 
 -- the room for definitions of a line that stands alone
 abbrev pub whole_room : Room
@@ -112,3 +118,55 @@ pub record StandsDigest (line : Line) (at : ℕ) : Type 0 where
   pub entry : EntryBody
   pub read : IsEntryIn (with_text line (with_path line.text at)) entry
   pub first : is_first_at at (last_command entry) ≡ true
+
+-- ---- Netgroups
+
+-- the line up to an offset, with this there
+abbrev pub line_with : Line → ℕ → List ℕ → Line
+line_with line at put = with_text line (take at line.text ++ put)
+
+-- what stands there is refused as a number
+abbrev pub IsBadNumberAt : Line → ℕ → Type 0
+IsBadNumberAt line at = IsGrammarFaultOf whole_room line (faults.BadNumber line.first (at + 1))
+
+-- a member of a list of users is read at an offset, or of a list of hosts: a group ID that no group can have, or an address that none
+-- is, is refused there as a number
+abbrev pub TakesUser : Line → ℕ → Type 0
+TakesUser line at = IsBadNumberAt (line_with line at (codes "%#4294967296")) at
+
+abbrev pub TakesHost : Line → ℕ → Type 0
+TakesHost line at = IsBadNumberAt (line_with line at (codes "256.0.0.0")) at
+
+-- the runas of the command has a list of groups
+abbrev pub has_groups : Option CommandSpec → Bool
+has_groups None = false
+has_groups (Some spec) = is_some (option_and_then (λ (r : Runas). r.groups) spec.runas)
+
+-- a member of the list of groups of a runas is read at an offset: a name there ends one
+pub record TakesGroup (line : Line) (at : ℕ) : Type 0 where
+  pub entry : EntryBody
+  pub read : IsEntryIn (line_with line at (codes "x) ALL")) entry
+  pub grouped : has_groups (last_spec entry) ≡ true
+
+-- the list for the netgroup at an offset
+abbrev pub list_at : Members → List Triple → List ℕ → ℕ → List ℕ
+list_at kind known text at = list_for kind known (sign_at (take at text)) (netgroup_at text at)
+
+-- a list of such members goes on at an offset
+abbrev pub IsListOf : Members → Line → ℕ → Type 0
+IsListOf Users line at = TakesUser line at
+IsListOf Hosts line at = (TakesUser line at → ⊥) × TakesHost line at
+
+-- what stands in place of a netgroup at an offset
+pub record IsMembers (known : List Triple) (line : Line) (at : ℕ) (put : List ℕ) : Type 0 where
+  pub kind : Members
+  pub list : IsListOf kind line at
+  pub is : put ≡ list_at kind known line.text at
+
+-- A known netgroup stands at an offset, and these are its members: it is spelled there, in a list of users or hosts, and not
+-- in the list of groups of a runas, where sudo takes none. The members stand on one line.
+pub record StandsNetgroup (known : List Triple) (line : Line) (at : ℕ) (put : List ℕ) : Type 0 where
+  pub spelled : spells_netgroup known line.text at ≡ true
+  pub ungrouped : TakesGroup line at → ⊥
+  pub members : IsMembers known line at put
+  pub one_line : newline_count put ≡ 0

@@ -1,17 +1,20 @@
--- The words without which nothing of a text is written otherwise: the names of options and of digests, `list`, and the word
--- of a Defaults line with a backslash.
-use Rattle.std.specs.Prelude.{ℕ, Bool, false, ◌||◌, nat_eq, List, [], ◌∷◌, codes}
+-- The words without which nothing of a text is written otherwise: the names of options and of digests, `list`, the word of a
+-- Defaults line with a backslash, and the plus sign of a netgroup.
+use Rattle.std.specs.Prelude.{ℕ, Bool, false, ◌||◌, ◌==◌, nat_eq, List, [], ◌∷◌, codes, count_by, slice_index}
 use Rattle.std.specs.List.{list_any, starts_with}
 
 abbrev pub words : List (List ℕ)
 words = codes "list" ∷ codes "CWD" ∷ codes "TIMEOUT" ∷ codes "ROLE" ∷ codes "TYPE" ∷ codes "CHROOT" ∷ codes "NOTBEFORE"
     ∷ codes "NOTAFTER" ∷ codes "sha224:" ∷ codes "sha256:" ∷ codes "sha384:" ∷ codes "sha512:" ∷ codes "Defaults\\" ∷ []
 
--- one of the words begins a text
+-- one of the words begins a text, or a plus sign
 abbrev pub begins_word : List ℕ → Bool
-begins_word text = list_any (starts_with nat_eq text) words
+begins_word text = list_any (starts_with nat_eq text) words || (slice_index text 0 == 43)
 
 -- one of the words stands in a text
 abbrev pub has_word : List ℕ → Bool
 has_word [] = false
 has_word (b ∷ bs) = begins_word (b ∷ bs) || has_word bs
+
+abbrev pub newline_count : List ℕ → ℕ
+newline_count text = count_by (λ b. b == 10) text

@@ -5,7 +5,7 @@ ghost use Rattle.std.specs.Str.{bytes_eq};
 ghost use Rattle.sudo_text.specs.Bytes as spec;
 ghost use Rattle.sudo_text.specs.Pieces as pieces;
 ghost use Rattle.sudo_text.specs.Rules as rules;
-ghost use Rattle.review_texts.specs.Masks as masks;
+ghost use Rattle.review_texts.specs.Words.{newline_count as the_count};
 
 /// Whether a byte is a space or a tab.
 pub(crate) fn is_blank(byte: u8) -> bool
@@ -90,7 +90,7 @@ pub(crate) fn begins_defaults(text: &[u8]) -> bool
 
 /// Returns the number of newlines of a text.
 pub(crate) fn newline_count(text: &[u8]) -> usize
-    ensures { result ≡ masks.newline_count text.now }
+    ensures { result ≡ the_count text.now }
 {
     text.iter().filter(|byte| **byte == b'\n').count()
 }

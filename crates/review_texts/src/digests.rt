@@ -90,9 +90,9 @@ fn base64_count(text: &[u8]) -> usize
     text.iter().take_while(|b| is_base64(**b)).count()
 }
 
-// Returns the value of a digest at an offset.
+/// Returns the value of a digest at an offset.
 #[tactic(auto, using(crate::proofs::Fronts::take_front))]
-fn digest_at(text: &[u8], at: usize) -> &[u8]
+pub(crate) fn digest_at(text: &[u8], at: usize) -> &[u8]
     ensures value { result.now ≡ spec.digest_at text.now at }
     ensures within { at + length result.now ≤ max at (length text.now) }
 {
@@ -100,8 +100,8 @@ fn digest_at(text: &[u8], at: usize) -> &[u8]
     &rest[..base64_count(rest)]
 }
 
-// Returns the offset at which the value of the digest at an offset begins.
-fn digest_start(text: &[u8], at: usize) -> usize
+/// Returns the offset at which the value of the digest at an offset begins.
+pub(crate) fn digest_start(text: &[u8], at: usize) -> usize
     requires { at + 7 ≤ length text.now + 1 }
     ensures start { result ≡ spec.digest_start text.now at }
     ensures within { result ≤ max (at + 7) (length text.now) }
@@ -145,7 +145,7 @@ fn digest_follows(text: &[u8], at: usize) -> bool
     peek(text, at) == b',' && 0 < digest_size(from(text, skip(text, at + 1)))
 }
 
-/// Returns the end of the digest at an offset, with the comma before a further one.
+/// Returns the end of the digest at an offset, with the comma before a further one, or with the blank before its command.
 pub(crate) fn digest_end(text: &[u8], at: usize) -> usize
     requires { at + 7 ≤ length text.now }
     ensures { result ≡ spec.digest_end text.now at }
@@ -155,7 +155,7 @@ pub(crate) fn digest_end(text: &[u8], at: usize) -> usize
     if peek(text, next) == b',' {
         next + 1
     } else {
-        stop
+        stop + 1
     }
 }
 

@@ -2,6 +2,7 @@
 ghost use Rattle.std.specs.Prelude.{◌≡◌, IfErr, IfOk};
 ghost use Rattle.review_texts.specs.MaskedTexts.{IsMaskedFile, masked_holdings};
 
+use crate::Readable;
 use crate::texts::mask_text;
 use run_base::{Files, FilesFault};
 use std::alloc::Global;
@@ -11,45 +12,44 @@ use sudo_text::Seq;
 #[derive(Drop)]
 pub struct Masked<F> {
     files: F,
-    noted: bool,
+    readable: Readable,
 }
 
 impl<F: Files> Masked<F> {
-    /// Wraps files, so that each gives its masked text. If `noted`, digests, times and roots are masked too: a note stands for
-    /// each, before the commands that it is about.
-    pub fn new(files: F, noted: bool) -> Masked<F>
-        ensures { (result.files ≡ files) × (result.noted ≡ noted) }
+    /// Wraps files, so that each gives its masked text.
+    pub fn new(files: F, readable: Readable) -> Masked<F>
+        ensures { (result.files ≡ files) × (result.readable ≡ readable) }
     {
-        Masked { files, noted }
+        Masked { files, readable }
     }
 }
 
 // Returns the masked text of a file that may be missing.
 fn mask_file(
     alloc: Global,
-    noted: bool,
+    readable: &Readable,
     text: Option<Seq<u8>>,
 ) -> Result<Option<Seq<u8>>, FilesFault>
-    ensures masked { IfOk result (λ masked. IsMaskedFile noted text masked) }
+    ensures masked { IfOk result (λ masked. IsMaskedFile readable.now text masked) }
     ensures memory { IfErr result (λ fault. fault ≡ FilesFault.Memory) }
 {
     match text {
-        Some(text) => Ok(Some(mask_text(alloc, noted, text)?)),
+        Some(text) => Ok(Some(mask_text(alloc, readable, text)?)),
         None => Ok(None),
     }
 }
 
 impl<F: Files> Files for Masked<F> {
-    ghost held = { λ s. masked_holdings s.noted (F.held s.files) };
+    ghost held = { λ s. masked_holdings s.readable (F.held s.files) };
 
     fn file(&mut self, alloc: Global, path: &[u8]) -> Result<Option<Seq<u8>>, FilesFault> {
         let text = self.files.file(alloc, path)?;
-        mask_file(alloc, self.noted, text)
+        mask_file(alloc, &self.readable, text)
     }
 
     fn main_file(&mut self, alloc: Global, path: &[u8]) -> Result<Option<Seq<u8>>, FilesFault> {
         let text = self.files.main_file(alloc, path)?;
-        mask_file(alloc, self.noted, text)
+        mask_file(alloc, &self.readable, text)
     }
 
     fn folder(&mut self, alloc: Global, path: &[u8]) -> Result<Seq<Seq<u8>>, FilesFault> {

@@ -5,12 +5,16 @@ mod bytes;
 mod digests;
 mod files;
 mod laws;
+mod listed;
 mod mask;
 mod masks;
+mod netgroups;
 mod note;
 mod options;
 mod places;
+mod readable;
 mod reading;
+mod standing;
 mod texts;
 #[cfg(test)]
 mod trials;
@@ -23,5 +27,7 @@ pub use laws::{
 };
 pub use mask::Mask;
 pub use masks::{as_written, mask_line, mask_of};
+pub use netgroups::Members;
 pub use note::{Note, note_in};
+pub use readable::Readable;
 pub use texts::mask_text;

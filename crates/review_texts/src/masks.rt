@@ -1,15 +1,15 @@
 //! The masks of a line.
-ghost use Rattle.std.specs.Prelude.{◌≡◌, ℕ, ◌≤◌, ◌<◌, ◌+◌, ◌++◌, length, IfOk, OnOk, MatchOption, IsTrue};
+ghost use Rattle.std.specs.Prelude.{◌≡◌, ℕ, ◌≤◌, ◌<◌, ◌+◌, ◌++◌, List, length, IfOk, OnOk, MatchOption, IsTrue};
 ghost use Rattle.std.specs.List.{list_any};
 ghost use Rattle.review_texts.specs.Masks as spec;
 ghost use Rattle.review_texts.specs.Masks.{Stands, IsFirstStand, IsMask, IsUnmasked, IsMasked, IsBehind};
 
-use crate::Mask;
 use crate::bytes::{from, has_byte, is_blank, is_text, newline_count, peek};
-use crate::options::name_at;
-use crate::places::{NO_PATH, stands, with_text};
+use crate::places::{NO_PATH, with_text};
 use crate::reading::refused_form;
+use crate::standing::{Standing, stands};
 use crate::words::has_word;
+use crate::{Mask, Readable};
 use std::alloc::{AllocError, Global};
 use sudo_grammar::Unsupported;
 use sudo_text::{Line, Seq, TEXT_LIMIT};
@@ -64,43 +64,44 @@ pub(crate) fn are_alike(text: &[u8], joins: &[u32]) -> bool
 // Whether a line may have a mask.
 fn is_fit(line: &Line) -> bool
     ensures fit { result ≡ spec.is_fit line.now }
-    ensures short { IsTrue result → length line.now.text + 8 ≤ TEXT_LIMIT }
+    ensures short { IsTrue result → length line.now.text + 16 ≤ TEXT_LIMIT }
 {
     has_word(line.text.as_slice())
         && are_alike(line.text.as_slice(), line.joins.as_slice())
-        && line.text.len() <= TEXT_LIMIT - 8
+        && line.text.len() <= TEXT_LIMIT - 16
         && newline_count(line.text.as_slice()) == 0
 }
 
 // Returns the first place at which a form stands, if it does. Returns `AllocError` if allocation fails.
 fn first_stand(
     alloc: Global,
-    noted: bool,
+    readable: &Readable,
     line: &Line,
     form: Unsupported,
 ) -> Result<Option<Mask>, AllocError>
-    requires { length line.now.text + 8 ≤ TEXT_LIMIT }
+    requires { length line.now.text + 16 ≤ TEXT_LIMIT }
     ensures { IfOk result (λ found. MatchOption found
-        ((start end : ℕ) → Stands noted line.now form start end → ⊥)
-        (λ mask. IsFirstStand noted line.now form mask)) }
+        ((start end : ℕ) (put : List ℕ) → Stands readable.now line.now form start end put → ⊥)
+        (λ mask. IsFirstStand readable.now line.now form mask)) }
 {
     for at in 0..line.text.len() {
-        if let Some(end) = stands(alloc, noted, line, form, at)? {
+        if let Some(standing) = stands(alloc, readable, line, form, at)? {
+            let Standing { end, put } = standing;
             return Ok(Some(Mask {
                 form,
                 start: at,
                 end,
+                put,
             }));
         }
     }
     Ok(None)
 }
 
-/// Returns the mask of a line, if it has one: if `noted`, also for a digest, a time or a root. Returns `AllocError` if
-/// allocation fails.
-pub fn mask_of(alloc: Global, noted: bool, line: &Line) -> Result<Option<Mask>, AllocError>
-    ensures { IfOk result (λ found. MatchOption found (IsUnmasked noted line.now)
-        (λ mask. IsMask noted line.now mask)) }
+/// Returns the mask of a line, if it has one. Returns `AllocError` if allocation fails.
+pub fn mask_of(alloc: Global, readable: &Readable, line: &Line) -> Result<Option<Mask>, AllocError>
+    ensures { IfOk result (λ found. MatchOption found (IsUnmasked readable.now line.now)
+        (λ mask. IsMask readable.now line.now mask)) }
 {
     if !is_fit(line) {
         return Ok(None);
@@ -108,34 +109,8 @@ pub fn mask_of(alloc: Global, noted: bool, line: &Line) -> Result<Option<Mask>, 
     let Some(form) = refused_form(alloc, line)? else {
         return Ok(None);
     };
-    let found = first_stand(alloc, noted, line, form)?;
+    let found = first_stand(alloc, readable, line, form)?;
     Ok(found)
-}
-
-// Returns the note of an option, as a command before others.
-fn option_text(name: &[u8]) -> &'static [u8]
-    ensures { result.now ≡ spec.note_text (spec.option_note name.now) }
-{
-    if is_text(name, b"CHROOT") {
-        b"/c[z-a],"
-    } else if is_text(name, b"NOTBEFORE") || is_text(name, b"NOTAFTER") {
-        b"/t[z-a],"
-    } else {
-        b""
-    }
-}
-
-// Returns what stands in place of a form that begins at an offset of a text.
-fn stand_in(form: Unsupported, text: &[u8], start: usize) -> &'static [u8]
-    requires { start ≤ length text.now }
-    ensures { result.now ≡ spec.stand_in form text.now start }
-{
-    match form {
-        Unsupported::CommandOption => option_text(name_at(text, start)),
-        Unsupported::List => NO_PATH,
-        Unsupported::Digest => b"/d[z-a],",
-        _ => b"",
-    }
 }
 
 // Appends a text, with blanks behind it up to a length.
@@ -166,20 +141,25 @@ fn behind(alloc: Global, line: &Line, mask: &Mask) -> Result<Line, AllocError>
 {
     let bytes = line.text.as_slice();
     let mut text = Seq::from_slice(alloc, &bytes[..mask.start])?;
-    let put = stand_in(mask.form, bytes, mask.start);
-    push_padded(alloc, mask.end.saturating_sub(mask.start), put, &mut text)?;
+    let len = mask.end.saturating_sub(mask.start);
+    push_padded(alloc, len, mask.put.as_slice(), &mut text)?;
     text.extend_from_slice(from(bytes, mask.end))?;
     Ok(with_text(alloc, line, text))
 }
 
 // Returns a line behind its masks, at most so many, one after another. Returns `AllocError` if allocation fails.
-fn behind_masks(alloc: Global, noted: bool, most: u32, line: Line) -> Result<Line, AllocError>
-    ensures { IfOk result (λ masked. IsBehind noted most line masked) }
+fn behind_masks(
+    alloc: Global,
+    readable: &Readable,
+    most: u32,
+    line: Line,
+) -> Result<Line, AllocError>
+    ensures { IfOk result (λ masked. IsBehind readable.now most line masked) }
 {
     let mut line = line;
     let mut left = most;
     while left > 0 {
-        let Some(mask) = mask_of(alloc, noted, &line)? else {
+        let Some(mask) = mask_of(alloc, readable, &line)? else {
             return Ok(line);
         };
         line = behind(alloc, &line, &mask)?;
@@ -188,15 +168,18 @@ fn behind_masks(alloc: Global, noted: bool, most: u32, line: Line) -> Result<Lin
     Ok(line)
 }
 
-/// Returns a line behind all its masks, or `None` if it has none: if `noted`, also those for digests, times and roots. Returns
-/// `AllocError` if allocation fails.
-pub fn mask_line(alloc: Global, noted: bool, line: &Line) -> Result<Option<Line>, AllocError>
-    ensures { IfOk result (λ found. MatchOption found (IsUnmasked noted line.now)
-        (λ masked. IsMasked noted line.now masked)) }
+/// Returns a line behind all its masks, or `None` if it has none. Returns `AllocError` if allocation fails.
+pub fn mask_line(
+    alloc: Global,
+    readable: &Readable,
+    line: &Line,
+) -> Result<Option<Line>, AllocError>
+    ensures { IfOk result (λ found. MatchOption found (IsUnmasked readable.now line.now)
+        (λ masked. IsMasked readable.now line.now masked)) }
 {
-    let Some(mask) = mask_of(alloc, noted, line)? else {
+    let Some(mask) = mask_of(alloc, readable, line)? else {
         return Ok(None);
     };
     let masked = behind(alloc, line, &mask)?;
-    Ok(Some(behind_masks(alloc, noted, MOST_MASKS, masked)?))
+    Ok(Some(behind_masks(alloc, readable, MOST_MASKS, masked)?))
 }

@@ -1,5 +1,5 @@
 //! What is noted and not judged.
-ghost use Rattle.std.specs.Prelude.{◌≡◌};
+ghost use Rattle.std.specs.Prelude.{◌≡◌, take};
 ghost use Rattle.std.specs.Str.{bytes_eq};
 ghost use Rattle.sudo_grammar.specs.Words.{bytes_of, has_no_escape};
 ghost use Rattle.review_texts.specs.Notes as spec;
@@ -49,6 +49,14 @@ fn spells(chars: &[Ch], text: &[u8]) -> bool
     }
 }
 
+// Returns the first seven characters, or all of fewer.
+#[tactic(auto, using(crate::proofs::Fronts::take_shorter))]
+fn front_of(path: &[Ch]) -> &[Ch]
+    ensures { result.now ≡ take 7 path.now }
+{
+    if path.len() > 7 { &path[..7] } else { path }
+}
+
 // Returns the note for which a path without arguments stands, if it does.
 fn note_of(path: &[Ch]) -> Option<Note>
     ensures { result ≡ spec.note_of path.now }
@@ -56,11 +64,12 @@ fn note_of(path: &[Ch]) -> Option<Note>
     if !is_unescaped(path) {
         return None;
     }
-    if spells(path, b"/d[z-a]") {
+    let front = front_of(path);
+    if spells(front, b"/d[z-a]") {
         Some(Note::Digest)
-    } else if spells(path, b"/t[z-a]") {
+    } else if spells(front, b"/t[z-a]") {
         Some(Note::Time)
-    } else if spells(path, b"/c[z-a]") {
+    } else if spells(front, b"/c[z-a]") {
         Some(Note::Chroot)
     } else {
         None

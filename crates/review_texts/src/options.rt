@@ -195,8 +195,8 @@ fn equals_of(text: &[u8], at: usize) -> usize
     skip(text, name_end(text, at))
 }
 
-// Returns the offset at which the value is expected.
-fn value_of(text: &[u8], at: usize) -> usize
+/// Returns the offset at which the value of the option at an offset is expected.
+pub(crate) fn value_of(text: &[u8], at: usize) -> usize
     requires { at ≤ length text.now }
     ensures value { result ≡ spec.value_of text.now at }
     ensures within { result ≤ length text.now + 1 }
@@ -212,9 +212,9 @@ fn value_len(text: &[u8]) -> usize
     text.iter().take_while(|b| is_value_byte(**b)).count()
 }
 
-// Returns the value at an offset.
+/// Returns the value at an offset.
 #[tactic(auto, using(crate::proofs::Fronts::take_front))]
-fn value_at(text: &[u8], at: usize) -> &[u8]
+pub(crate) fn value_at(text: &[u8], at: usize) -> &[u8]
     ensures value { result.now ≡ spec.value_at text.now at }
     ensures within { length result.now ≤ length text.now - at }
 {

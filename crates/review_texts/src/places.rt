@@ -3,11 +3,10 @@ ghost use Rattle.std.specs.Prelude.{◌≡◌, ℕ, ◌≤◌, ◌+◌, length, 
 ghost use Rattle.std.specs.Option.{option_copied};
 ghost use Rattle.sudo_grammar.specs.declared.policy.EntryBody.{EntryBody as AnEntry};
 ghost use Rattle.review_texts.specs.Places as spec;
-ghost use Rattle.review_texts.specs.Masks.{Stands};
 
 use crate::bytes::{begins_defaults, from, is_blank, peek, skip};
-use crate::digests::{digest_end, spells_digest};
-use crate::options::{name_end, option_end, spells_option};
+use crate::digests::spells_digest;
+use crate::options::{name_end, spells_option};
 use crate::reading::entry_in;
 use std::alloc::{AllocError, Global};
 use sudo_grammar::{Binding, CommandSpec, EntryBody, Member, Unsupported};
@@ -27,8 +26,8 @@ pub(crate) fn with_text(alloc: Global, line: &Line, text: Seq<u8>) -> Line
     }
 }
 
-// Returns the last command of a rule, with what stands before it.
-fn last_spec(entry: &EntryBody) -> Option<&CommandSpec>
+/// Returns the last command of a rule, with what stands before it.
+pub(crate) fn last_spec(entry: &EntryBody) -> Option<&CommandSpec>
     ensures { option_copied result ≡ spec.last_spec entry.now }
 {
     match entry {
@@ -189,8 +188,13 @@ fn reads_first(alloc: Global, line: &Line, at: usize) -> Result<bool, AllocError
     }
 }
 
-// Whether an option stands at an offset. Returns `AllocError` if allocation fails.
-fn option_stands(alloc: Global, noted: bool, line: &Line, at: usize) -> Result<bool, AllocError>
+/// Whether an option stands at an offset. Returns `AllocError` if allocation fails.
+pub(crate) fn option_stands(
+    alloc: Global,
+    noted: bool,
+    line: &Line,
+    at: usize,
+) -> Result<bool, AllocError>
     requires within { at ≤ length line.now.text }
     requires short { length line.now.text ≤ TEXT_LIMIT }
     ensures yes { IfOk result (λ found. IsTrue found → spec.StandsOption noted line.now at) }
@@ -204,10 +208,10 @@ fn option_stands(alloc: Global, noted: bool, line: &Line, at: usize) -> Result<b
     reads_bare(alloc, &front, at)
 }
 
-// Whether `list` stands at an offset as a command. Returns `AllocError` if allocation fails.
-fn list_stands(alloc: Global, line: &Line, at: usize) -> Result<bool, AllocError>
+/// Whether `list` stands at an offset as a command. Returns `AllocError` if allocation fails.
+pub(crate) fn list_stands(alloc: Global, line: &Line, at: usize) -> Result<bool, AllocError>
     requires within { at ≤ length line.now.text }
-    requires short { length line.now.text + 8 ≤ TEXT_LIMIT }
+    requires short { length line.now.text + 16 ≤ TEXT_LIMIT }
     ensures yes { IfOk result (λ found. IsTrue found → spec.StandsList line.now at) }
     ensures only { IfOk result (λ found. spec.StandsList line.now at → IsTrue found) }
 {
@@ -218,10 +222,10 @@ fn list_stands(alloc: Global, line: &Line, at: usize) -> Result<bool, AllocError
     reads_command(alloc, &front, at)
 }
 
-// Whether a digest stands at an offset. Returns `AllocError` if allocation fails.
-fn digest_stands(alloc: Global, line: &Line, at: usize) -> Result<bool, AllocError>
+/// Whether a digest stands at an offset. Returns `AllocError` if allocation fails.
+pub(crate) fn digest_stands(alloc: Global, line: &Line, at: usize) -> Result<bool, AllocError>
     requires within { at ≤ length line.now.text }
-    requires short { length line.now.text + 8 ≤ TEXT_LIMIT }
+    requires short { length line.now.text + 16 ≤ TEXT_LIMIT }
     ensures yes { IfOk result (λ found. IsTrue found → spec.StandsDigest line.now at) }
     ensures only { IfOk result (λ found. spec.StandsDigest line.now at → IsTrue found) }
     ensures long { IfOk result (λ found. IsTrue found → at + 7 ≤ length line.now.text) }
@@ -231,31 +235,4 @@ fn digest_stands(alloc: Global, line: &Line, at: usize) -> Result<bool, AllocErr
     }
     let front = line_with_path(alloc, line, at)?;
     reads_first(alloc, &front, at)
-}
-
-// Returns the offset up to which a form stands that begins at an offset, if it stands there. Returns `AllocError` if
-// allocation fails.
-pub(crate) fn stands(
-    alloc: Global,
-    noted: bool,
-    line: &Line,
-    form: Unsupported,
-    at: usize,
-) -> Result<Option<usize>, AllocError>
-    requires within { at ≤ length line.now.text }
-    requires short { length line.now.text + 8 ≤ TEXT_LIMIT }
-    ensures { IfOk result (λ found. MatchOption found
-        ((end : ℕ) → Stands noted line.now form at end → ⊥)
-        (λ end. Stands noted line.now form at end)) }
-{
-    match form {
-        Unsupported::CommandOption if option_stands(alloc, noted, line, at)? => {
-            Ok(Some(option_end(line.text.as_slice(), at)))
-        }
-        Unsupported::List if list_stands(alloc, line, at)? => Ok(Some(at + 4)),
-        Unsupported::Digest if noted && digest_stands(alloc, line, at)? => {
-            Ok(Some(digest_end(line.text.as_slice(), at)))
-        }
-        _ => Ok(None),
-    }
 }

@@ -3,7 +3,7 @@ ghost use Rattle.std.specs.Prelude.{◌≡◌, ◌≢◌, ◌≤◌, length, Dec
 ghost use Rattle.sudo_text.specs.declared.line.Place.{Place as APlace};
 ghost use Rattle.sudo_grammar.specs.declared.policy.EntryBody.{EntryBody as AnEntry};
 ghost use Rattle.sudo_grammar.specs.declared.fault.Unsupported.{Unsupported as AForm};
-ghost use Rattle.review_texts.specs.Places.{IsEntryIn, IsRefusedFor};
+ghost use Rattle.review_texts.specs.Places.{IsBadNumberAt, IsEntryIn, IsRefusedFor};
 ghost use Rattle.review_texts.specs.MaskedTexts.{HasEntries, IsRead};
 
 use std::alloc::{AllocError, Global};
@@ -89,4 +89,29 @@ pub(crate) fn refused_form(alloc: Global, line: &Line) -> Result<Option<Unsuppor
     };
     unless_memory(fault)?;
     Ok(named_form(&fault))
+}
+
+// Whether a fault is a number at a column.
+fn is_number_at(fault: &ParseFault, column: usize) -> bool
+    ensures { Decides result ((place : APlace)
+        × (fault.now ≡ ParseFault.BadNumber place column)) }
+{
+    match fault {
+        ParseFault::BadNumber { col, .. } => *col as usize == column,
+        _ => false,
+    }
+}
+
+/// Whether a line by itself is refused for a number at an offset. Returns `AllocError` if allocation fails.
+pub(crate) fn is_bad_number(alloc: Global, line: &Line, at: usize) -> Result<bool, AllocError>
+    requires fits { length line.now.text ≤ TEXT_LIMIT }
+    requires within { at ≤ TEXT_LIMIT }
+    ensures { IfOk result (λ is. Decides is (IsBadNumberAt line.now at)) }
+{
+    let fault = match parse(alloc, slice::from_ref(line)) {
+        Ok(_) => return Ok(false),
+        Err(fault) => fault,
+    };
+    unless_memory(fault)?;
+    Ok(is_number_at(&fault, at + 1))
 }

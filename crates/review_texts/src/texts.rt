@@ -6,6 +6,7 @@ ghost use Rattle.review_texts.specs.MaskedTexts.{front_lines, written, IsReadSpa
 ghost use Rattle.review_texts.specs.MaskedTexts.{IsBlock, IsBlockBy, IsPlainBlock, AreBlocks, IsTextBy, IsMaskedText};
 ghost use Rattle.sudo_text.specs.Lines.{lines_of};
 
+use crate::Readable;
 use crate::bytes::{has_byte, newline_count};
 use crate::masks::{are_alike, mask_line};
 use crate::places::with_text;
@@ -177,13 +178,13 @@ fn plain_block(alloc: Global, line: &Line, bytes: &[u8]) -> Result<Option<Seq<u8
 // Returns what the bytes of a line become, if they change.
 fn block_of(
     alloc: Global,
-    noted: bool,
+    readable: &Readable,
     line: &Line,
     bytes: &[u8],
 ) -> Result<Option<Seq<u8>>, AllocError>
-    ensures { IfOk result (λ block. IsBlock noted line.now bytes.now (unwrap_or block bytes.now)) }
+    ensures { IfOk result (λ block. IsBlock readable.now line.now bytes.now (unwrap_or block bytes.now)) }
 {
-    match mask_line(alloc, noted, line)? {
+    match mask_line(alloc, readable, line)? {
         Some(masked) => block_by(alloc, line, masked, bytes),
         None => plain_block(alloc, line, bytes),
     }
@@ -192,15 +193,15 @@ fn block_of(
 // Appends what the bytes of a line become.
 fn push_block(
     alloc: Global,
-    noted: bool,
+    readable: &Readable,
     line: &Line,
     bytes: &[u8],
     masked: &mut Seq<u8>,
 ) -> Result<(), AllocError>
-    ensures { OnOk result ((block : List ℕ) × IsBlock noted line.now bytes.now block
+    ensures { OnOk result ((block : List ℕ) × IsBlock readable.now line.now bytes.now block
         × (masked.new ≡ masked.old ++ block)) }
 {
-    match block_of(alloc, noted, line, bytes)? {
+    match block_of(alloc, readable, line, bytes)? {
         Some(block) => masked.append(block),
         None => masked.extend_from_slice(bytes),
     }
@@ -209,18 +210,18 @@ fn push_block(
 // Returns what a text becomes that begins with logical lines.
 fn mask_lines(
     alloc: Global,
-    noted: bool,
+    readable: &Readable,
     lines: &[Line],
     text: &[u8],
 ) -> Result<Seq<u8>, AllocError>
-    ensures { IfOk result (λ masked. AreBlocks noted lines.now text.now masked) }
+    ensures { IfOk result (λ masked. AreBlocks readable.now lines.now text.now masked) }
 {
     let mut masked = Seq::new(alloc);
     let mut rest = text;
     let mut left = lines;
     while let Some((line, after)) = left.split_first() {
         let (bytes, behind) = cut_written(line, rest);
-        push_block(alloc, noted, line, bytes, &mut masked)?;
+        push_block(alloc, readable, line, bytes, &mut masked)?;
         rest = behind;
         left = after;
     }
@@ -229,23 +230,22 @@ fn mask_lines(
 }
 
 // Returns the masked text of a text in which one of the words stands.
-fn mask_words(alloc: Global, noted: bool, text: &[u8]) -> Result<Seq<u8>, AllocError>
-    ensures { IfOk result (λ masked. IsTextBy noted (lines_of 0 text.now) text.now masked) }
+fn mask_words(alloc: Global, readable: &Readable, text: &[u8]) -> Result<Seq<u8>, AllocError>
+    ensures { IfOk result (λ masked. IsTextBy readable.now (lines_of 0 text.now) text.now masked) }
 {
     match lines(alloc, 0, text) {
-        Ok(lines) => mask_lines(alloc, noted, &lines, text),
+        Ok(lines) => mask_lines(alloc, readable, &lines, text),
         Err(TextFault::Memory) => Err(AllocError),
         Err(_) => Seq::from_slice(alloc, text),
     }
 }
 
-/// Returns the masked text of a file: if `noted`, digests, times and roots are masked too. Returns `AllocError` if allocation
-/// fails.
-pub fn mask_text(alloc: Global, noted: bool, text: Seq<u8>) -> Result<Seq<u8>, AllocError>
-    ensures { IfOk result (λ masked. IsMaskedText noted text masked) }
+/// Returns the masked text of a file. Returns `AllocError` if allocation fails.
+pub fn mask_text(alloc: Global, readable: &Readable, text: Seq<u8>) -> Result<Seq<u8>, AllocError>
+    ensures { IfOk result (λ masked. IsMaskedText readable.now text masked) }
 {
     if !has_word(text.as_slice()) {
         return Ok(text);
     }
-    mask_words(alloc, noted, text.as_slice())
+    mask_words(alloc, readable, text.as_slice())
 }

@@ -1,14 +1,38 @@
 //! Texts before and behind their masks. Many lines are those of sudo's own tests.
 
-use crate::mask_text;
+use crate::{Readable, mask_text};
+use audit_files::Triple;
 use std::alloc::{AllocError, Global};
 use std::test::Fail;
 use sudo_text::Seq;
 
+// Returns that notes are read, and three netgroups: of users on hosts, of capital letters, and without members.
+fn readable(alloc: Global) -> Result<Readable, AllocError> {
+    let mut netgroups = Vec::new(alloc);
+    for (netgroup, host, user) in [
+        ("ops", "web1", "alice"),
+        ("ops", "DB", "DOMAIN"),
+        ("ops", "-", "bob b"),
+        ("any", "", ""),
+        ("none", "-", "-"),
+    ] {
+        netgroups.push(Triple {
+            netgroup: Seq::from_slice(alloc, netgroup.as_bytes())?,
+            host: Seq::from_slice(alloc, host.as_bytes())?,
+            user: Seq::from_slice(alloc, user.as_bytes())?,
+        })?;
+    }
+    Ok(Readable {
+        noted: true,
+        netgroups,
+    })
+}
+
 // Whether the masked text of each text is the other.
 fn are_masked(alloc: Global, rows: &[(&str, &str)]) -> Result<bool, AllocError> {
+    let readable = readable(alloc)?;
     for (text, wanted) in rows {
-        let masked = mask_text(alloc, true, Seq::from_slice(alloc, text.as_bytes())?)?;
+        let masked = mask_text(alloc, &readable, Seq::from_slice(alloc, text.as_bytes())?)?;
         if masked.as_slice() != wanted.as_bytes() {
             return Ok(false);
         }
@@ -18,8 +42,9 @@ fn are_masked(alloc: Global, rows: &[(&str, &str)]) -> Result<bool, AllocError> 
 
 // Whether each text stays as it is.
 fn are_kept(alloc: Global, texts: &[&str]) -> Result<bool, AllocError> {
+    let readable = readable(alloc)?;
     for text in texts {
-        if mask_text(alloc, true, Seq::from_slice(alloc, text.as_bytes())?)?.as_slice()
+        if mask_text(alloc, &readable, Seq::from_slice(alloc, text.as_bytes())?)?.as_slice()
             != text.as_bytes()
         {
             return Ok(false);
@@ -74,22 +99,40 @@ fn roots_and_times_become_notes(rt: HostRuntime) -> Result<(), Fail> {
     let rows = [
         (
             "u ALL = CHROOT=/ /b, CHROOT = /srv/x NOPASSWD: /c",
-            "u ALL = /c[z-a], /b, /c[z-a],        NOPASSWD: /c",
+            "u ALL = /c[z-a]/,/b, /c[z-a]/srv/x,  NOPASSWD: /c",
         ),
         (
             "u ALL = (bob) CHROOT=* CWD=/x /b: web = CHROOT=~bob ALL",
-            "u ALL = (bob) /c[z-a],        /b: web = /c[z-a],    ALL",
+            "u ALL = (bob) /c[z-a]*,       /b: web = /c[z-a]~bob,ALL",
         ),
         (
             "u ALL = NOTBEFORE=20260101000000Z NOTAFTER=2027010100 !/b, /c",
-            "u ALL = /t[z-a],                  /t[z-a],            !/b, /c",
+            "u ALL = /t[z-a]b20260101000000Z,  /t[z-a]a2027010100, !/b, /c",
         ),
     ];
     assert!(rt; are_masked(rt.alloc(), &rows)?);
     Ok(())
 }
 
-// Whether the digests in a text become notes, each as long as it was with the comma that follows it.
+// Appends the value of a digest without its padding, and as many blanks as it has padding.
+fn push_note(digest: &str, text: &mut Seq<u8>) -> Result<(), AllocError> {
+    let mut blanks: u32 = 0;
+    text.extend_from_slice(b"/d[z-a]")?;
+    for byte in digest.as_bytes().iter().skip(7) {
+        if *byte == b'=' {
+            blanks += 1;
+        } else {
+            text.push(*byte)?;
+        }
+    }
+    text.push(b',')?;
+    for _at in 0..blanks {
+        text.push(b' ')?;
+    }
+    Ok(())
+}
+
+// Whether the digests in a text become notes, each as long as it was with the byte that follows it.
 fn has_noted_digests(
     alloc: Global,
     front: &str,
@@ -101,30 +144,28 @@ fn has_noted_digests(
     for (number, digest) in digests.iter().enumerate() {
         if number > 0 {
             text.extend_from_slice(b", ")?;
-            wanted.extend_from_slice(b"  ")?;
+            wanted.extend_from_slice(b" ")?;
         }
         text.extend_from_slice(digest.as_bytes())?;
-        wanted.extend_from_slice(b"/d[z-a],")?;
-        for _at in 8..digest.len() {
-            wanted.push(b' ')?;
-        }
+        push_note(digest, &mut wanted)?;
     }
+    text.push(b' ')?;
     text.extend_from_slice(rest.as_bytes())?;
     wanted.extend_from_slice(rest.as_bytes())?;
-    Ok(mask_text(alloc, true, text)?.as_slice() == wanted.as_slice())
+    Ok(mask_text(alloc, &readable(alloc)?, text)?.as_slice() == wanted.as_slice())
 }
 
 #[test]
 fn digests_become_notes(rt: HostRuntime) -> Result<(), Fail> {
     let alloc = rt.alloc();
-    assert!(rt; has_noted_digests(alloc, "u ALL = ", &[SHA224], " /b -x\n")?);
-    assert!(rt; has_noted_digests(alloc, "u ALL = (bob) NOPASSWD: ", &[SHA256], " !/b, /c")?);
+    assert!(rt; has_noted_digests(alloc, "u ALL = ", &[SHA224], "/b -x\n")?);
+    assert!(rt; has_noted_digests(alloc, "u ALL = (bob) NOPASSWD: ", &[SHA256], "!/b, /c")?);
     assert!(rt;
         has_noted_digests(
             alloc,
             "Cmnd_Alias C = /a, ",
             &[SHA256, SHA224],
-            " ALL : D = /c"
+            "ALL : D = /c"
         )?
     );
     assert!(rt;
@@ -155,7 +196,11 @@ fn other_digests_stay(rt: HostRuntime) -> Result<(), Fail> {
         let mut text = Seq::from_slice(alloc, front.as_bytes())?;
         text.extend_from_slice(SHA224.as_bytes())?;
         text.extend_from_slice(rest.as_bytes())?;
-        let masked = mask_text(alloc, true, Seq::from_slice(alloc, text.as_slice())?)?;
+        let masked = mask_text(
+            alloc,
+            &readable(alloc)?,
+            Seq::from_slice(alloc, text.as_slice())?,
+        )?;
         assert!(rt; masked.as_slice() == text.as_slice());
     }
     Ok(())
@@ -164,8 +209,12 @@ fn other_digests_stay(rt: HostRuntime) -> Result<(), Fail> {
 #[test]
 fn notes_are_refused_where_none_is_wanted(rt: HostRuntime) -> Result<(), Fail> {
     let alloc = rt.alloc();
+    let readable = Readable {
+        noted: false,
+        netgroups: Vec::new(alloc),
+    };
     for text in ["u ALL = CHROOT=/x /b", "u ALL = NOTAFTER=2026010100Z /b"] {
-        let masked = mask_text(alloc, false, Seq::from_slice(alloc, text.as_bytes())?)?;
+        let masked = mask_text(alloc, &readable, Seq::from_slice(alloc, text.as_bytes())?)?;
         assert!(rt; masked.as_slice() == text.as_bytes());
     }
     Ok(())
@@ -201,6 +250,56 @@ fn a_list_becomes_a_path(rt: HostRuntime) -> Result<(), Fail> {
         ),
     ];
     assert!(rt; are_masked(rt.alloc(), &rows)?);
+    Ok(())
+}
+
+#[test]
+fn a_netgroup_becomes_its_members(rt: HostRuntime) -> Result<(), Fail> {
+    let rows = [
+        ("+ops ALL = /b\n", "alice,\"DOMAIN\",bob\\ b ALL = /b\n"),
+        (
+            "!+ops, !! +ops, root ALL = /b",
+            "!alice,!\"DOMAIN\",!bob\\ b, !! alice,\"DOMAIN\",bob\\ b, root ALL = /b",
+        ),
+        (
+            "\"+ops\" +any, !+ops = (+ops, !+none : adm) /b",
+            "alice,\"DOMAIN\",bob\\ b ALL , !web1,!\\DB = (alice,\"DOMAIN\",bob\\ b, !\\x00  : adm) /b",
+        ),
+        (
+            "Host_Alias H = +ops : I = +none",
+            "Host_Alias H = web1,\\DB : I = [z-a]",
+        ),
+        ("Runas_Alias R = +any#+ops", "Runas_Alias R = ALL #+ops"),
+        ("Defaults@+ops lecture", "Defaults@web1,\\DB lecture"),
+        (
+            "Defaults:!+ops lecture",
+            "Defaults:!alice,!\"DOMAIN\",!bob\\ b lecture",
+        ),
+        ("Defaults>+any x += y", "Defaults>ALL  x += y"),
+        (
+            "+any ALL = TIMEOUT=5 sha224:x, /bin/date +ops, list",
+            "ALL  ALL =           sha224:x, /bin/date +ops, list",
+        ),
+        (
+            "+any ALL = TIMEOUT=5 /bin/date +ops, list",
+            "ALL  ALL =           /bin/date +ops, /list[z-a]",
+        ),
+    ];
+    assert!(rt; are_masked(rt.alloc(), &rows)?);
+    let texts = [
+        "+unknown ALL = ALL",
+        "+ ALL = ALL",
+        "+ops\\x ALL = ALL",
+        "\"+ops ALL = ALL",
+        "u ALL = (root : +ops) /b",
+        "u ALL = /bin/date +ops",
+        "+ops = ALL",
+        "u ALL = +ops",
+        "Cmnd_Alias C = +ops",
+        "Defaults env_keep += \"+ops\"",
+        "Defaults!+ops lecture",
+    ];
+    assert!(rt; are_kept(rt.alloc(), &texts)?);
     Ok(())
 }
 

@@ -1,5 +1,5 @@
 -- The first two bytes of the words; only proofs of bodies use these.
-use Rattle.std.specs.Prelude.{ℕ, Bool, ◌&&◌, nat_eq, List, slice_index}
+use Rattle.std.specs.Prelude.{ℕ, Bool, ◌&&◌, ◌||◌, ◌==◌, nat_eq, List, slice_index}
 use Rattle.std.specs.List.{list_any}
 use Rattle.review_texts.specs.Words.{words}
 
@@ -7,6 +7,6 @@ use Rattle.review_texts.specs.Words.{words}
 abbrev pub begins_as : ℕ → ℕ → List ℕ → Bool
 begins_as first second word = nat_eq (slice_index word 0) first && nat_eq (slice_index word 1) second
 
--- one of the words does
+-- one of the words does, or the first is a plus sign
 abbrev pub begin_word : ℕ → ℕ → Bool
-begin_word first second = list_any (begins_as first second) words
+begin_word first second = list_any (begins_as first second) words || (first == 43)

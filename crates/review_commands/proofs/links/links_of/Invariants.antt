@@ -1,6 +1,6 @@
 use Rattle.std.proofs.Common.{◌≡◌, ◌++◌, map}
 use Rattle.std.specs.Vec.Iter.{into_iter_items}
-use Rattle.review_commands.specs.MachineLinks.{link_of_paths}
+use Rattle.review_commands.specs.MachineFiles.{link_of_paths}
 use Rattle.review_commands.proofs.links.links_of.Given as goal
 
 abbrev pub invariant-loop-paths : goal.invariant-loop-paths

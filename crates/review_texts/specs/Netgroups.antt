@@ -1,0 +1,118 @@
+-- The members for which a netgroup stands in a list: sudoers(5), "Aliases", "User_List" and "Host_List"; netgroup(5). A list
+-- of users has the users of the netgroup's triples, on whichever host, and a list of hosts has their hosts, of whichever user.
+use Rattle.std.specs.Prelude.{ℕ, ◌+◌, ◌-◌, ◌%◌, Bool, true, false, not, ◌&&◌, ◌||◌, ◌==◌, if◌then◌else◌, List, [], ◌∷◌, ◌++◌}
+use Rattle.std.specs.Prelude.{length, drop, reverse, slice_index, codes, count_by, filter_map, fold, Option, None, Some}
+use Rattle.std.specs.List.{list_all, list_any, take_while}
+use Rattle.std.specs.Str.{bytes_eq}
+use Rattle.sudo_text.specs.Bytes.{is_blank, is_control}
+use Rattle.sudo_text.specs.Pieces.{is_mark_byte}
+use Rattle.sudo_grammar.specs.Words.{begins_upper, is_name_byte}
+use Rattle.sudo_match.specs.Matching.{is_empty}
+use Rattle.sudo_parser.specs.Texts.{user_text}
+use Rattle.audit_files.specs.declared.netgroups.Triple.{Triple}
+use Rattle.review_texts.specs.declared.netgroups.Members.{Members}
+use Rattle.review_texts.specs.declared.netgroups.Members.TheVariants.{Users, Hosts}
+
+-- ---- What a netgroup stands for
+
+-- a host as a member; an escape keeps a name of capital letters from being that of an alias
+abbrev pub host_text : List ℕ → List ℕ
+host_text name = if begins_upper name && list_all is_name_byte name then 92 ∷ name else name
+
+abbrev pub name_text : Members → List ℕ → List ℕ
+name_text Users name = user_text name
+name_text Hosts name = host_text name
+
+-- the field of a triple that is read in a list
+abbrev pub field_in : Members → Triple → List ℕ
+field_in Users t = t.user
+field_in Hosts t = t.host
+
+-- the member that a field stands for: any, none (`-`), or one
+abbrev pub member_for : Members → List ℕ → Option (List ℕ)
+member_for kind field =
+    if is_empty field then Some (codes "ALL")
+    else if bytes_eq field (codes "-") then None
+    else Some (name_text kind field)
+
+-- the member that a triple adds to a netgroup's list, if it is one of that netgroup
+abbrev pub member_of : Members → List ℕ → Triple → Option (List ℕ)
+member_of kind name t = if bytes_eq t.netgroup name then member_for kind (field_in kind t) else None
+
+-- a list with a further member, behind a comma and this sign
+abbrev pub with_member : List ℕ → List ℕ → List ℕ → List ℕ
+with_member sign list member = if is_empty list then member else list ++ (44 ∷ sign ++ member)
+
+abbrev pub with_member_if : List ℕ → List ℕ → Option (List ℕ) → List ℕ
+with_member_if sign list None = list
+with_member_if sign list (Some member) = with_member sign list member
+
+-- the list of the members that triples add; each but the first has a sign
+abbrev pub members_of : Members → List ℕ → List ℕ → List Triple → List ℕ
+members_of kind sign name triples = fold (with_member sign) [] (filter_map (member_of kind name) triples)
+
+-- a user that no system has, since its name is a byte 0; and a host that nothing is, since its brackets have no character
+abbrev pub nobody : Members → List ℕ
+nobody Users = codes "\\x00"
+nobody Hosts = codes "[z-a]"
+
+abbrev pub list_or : List ℕ → List ℕ → List ℕ
+list_or other list = if is_empty list then other else list
+
+-- the list that stands for a netgroup
+abbrev pub list_for : Members → List Triple → List ℕ → List ℕ → List ℕ
+list_for kind known sign name = list_or (nobody kind) (members_of kind sign name known)
+
+-- a triple has the name
+abbrev pub is_known : List Triple → List ℕ → Bool
+is_known known name = list_any (λ t. bytes_eq t.netgroup name) known
+
+-- ---- Where a netgroup is spelled
+
+-- the offset of the plus sign of a netgroup at an offset, quoted or not
+abbrev pub plus_at : List ℕ → ℕ → ℕ
+plus_at text at = if slice_index text at == 34 then at + 1 else at
+
+-- a byte of the name between double quotes, and of one without
+abbrev pub is_quoted_byte : ℕ → Bool
+is_quoted_byte b = not (is_control b || (b == 34) || (b == 92))
+
+abbrev pub is_bare_byte : ℕ → Bool
+is_bare_byte b = is_quoted_byte b && not (is_blank b || is_mark_byte b || (b == 35))
+
+abbrev pub name_byte : Bool → ℕ → Bool
+name_byte true b = is_quoted_byte b
+name_byte false b = is_bare_byte b
+
+-- the name of the netgroup
+abbrev pub netgroup_at : List ℕ → ℕ → List ℕ
+netgroup_at text at = take_while (name_byte (slice_index text at == 34)) (drop (plus_at text at + 1) text)
+
+-- the offset behind its name, and behind its double quote
+abbrev pub netgroup_stop : List ℕ → ℕ → ℕ
+netgroup_stop text at = plus_at text at + 1 + length (netgroup_at text at)
+
+abbrev pub netgroup_end : List ℕ → ℕ → ℕ
+netgroup_end text at = if slice_index text at == 34 then netgroup_stop text at + 1 else netgroup_stop text at
+
+-- the name ends: at a double quote, or neither at one nor at an escape
+abbrev pub ends_name : List ℕ → ℕ → Bool
+ends_name text at =
+    if slice_index text at == 34 then slice_index text (netgroup_stop text at) == 34
+    else not ((slice_index text (netgroup_stop text at) == 34) || (slice_index text (netgroup_stop text at) == 92))
+
+-- a netgroup that is known is spelled at an offset
+unfoldable pub spells_netgroup : List Triple → List ℕ → ℕ → Bool
+spells_netgroup known text at =
+    (slice_index text (plus_at text at) == 43) && ends_name text at && is_known known (netgroup_at text at)
+
+-- the number of exclamation marks and blanks that end a text
+abbrev pub sign_len : List ℕ → ℕ
+sign_len text = length (take_while (λ b. is_blank b || (b == 33)) (reverse text))
+
+-- the sign of the member that begins behind a text: `!`, where an odd number of them stands before it
+abbrev pub bangs_at : List ℕ → ℕ
+bangs_at text = count_by (λ b. b == 33) (drop (length text - sign_len text) text)
+
+abbrev pub sign_at : List ℕ → List ℕ
+sign_at text = if bangs_at text % 2 == 1 then 33 ∷ [] else []

@@ -1,0 +1,311 @@
+//! The members for which a netgroup stands.
+ghost use Rattle.std.specs.Prelude.{◌≡◌, ◌≤◌, ◌<◌, ◌+◌, ◌++◌, IfOk, IsTrue, OnOk, drop, length, max, take};
+ghost use Rattle.std.specs.List.{list_all, list_any, take_while};
+ghost use Rattle.sudo_grammar.specs.Words as words;
+ghost use Rattle.sudo_parser.specs.Texts.{user_text};
+ghost use Rattle.review_texts.specs.Netgroups as spec;
+
+use crate::bytes::{from, is_blank, is_control, is_mark_byte, is_text, peek};
+use crate::options::is_name_byte;
+use audit_files::Triple;
+use std::alloc::{AllocError, Global};
+use sudo_grammar::{Atom, Signed};
+use sudo_parser::member_text;
+use sudo_text::Seq;
+
+/// The kind of members for which a netgroup stands.
+#[derive(Clone, Copy, Debug, PartialEq, Eq)]
+pub enum Members {
+    Users,
+    Hosts,
+}
+
+// Returns a user as a member of a list.
+fn user_text(alloc: Global, name: &[u8]) -> Result<Seq<u8>, AllocError>
+    ensures { IfOk result (λ text. text ≡ user_text name.now) }
+{
+    let atom = Atom::Name(Seq::from_slice(alloc, name)?);
+    let member = Signed {
+        negated: false,
+        atom,
+    };
+    Ok(Seq::from_vec(member_text(alloc, &member)?))
+}
+
+fn begins_upper(name: &[u8]) -> bool
+    ensures { result ≡ words.begins_upper name.now }
+{
+    match name {
+        [] => false,
+        [first, ..] => first.is_ascii_uppercase(),
+    }
+}
+
+fn has_name_bytes(name: &[u8]) -> bool
+    ensures { result ≡ list_all words.is_name_byte name.now }
+{
+    name.iter().all(|byte| is_name_byte(*byte))
+}
+
+// Returns a host as a member of a list.
+fn host_text(alloc: Global, name: &[u8]) -> Result<Seq<u8>, AllocError>
+    ensures { IfOk result (λ text. text ≡ spec.host_text name.now) }
+{
+    if !(begins_upper(name) && has_name_bytes(name)) {
+        return Seq::from_slice(alloc, name);
+    }
+    let mut text = Seq::from_slice(alloc, b"\\")?;
+    text.extend_from_slice(name)?;
+    Ok(text)
+}
+
+// Returns a user or a host as a member of a list.
+fn name_text(alloc: Global, kind: Members, name: &[u8]) -> Result<Seq<u8>, AllocError>
+    ensures { IfOk result (λ text. text ≡ spec.name_text kind name.now) }
+{
+    match kind {
+        Members::Users => user_text(alloc, name),
+        Members::Hosts => host_text(alloc, name),
+    }
+}
+
+// Returns the field of a triple that is read in a list.
+fn field_in(kind: Members, triple: &Triple) -> &[u8]
+    ensures { result.now ≡ spec.field_in kind triple.now }
+{
+    match kind {
+        Members::Users => triple.user.as_slice(),
+        Members::Hosts => triple.host.as_slice(),
+    }
+}
+
+// Returns the member that a field stands for, if any.
+fn member_for(alloc: Global, kind: Members, field: &[u8]) -> Result<Option<Seq<u8>>, AllocError>
+    ensures { IfOk result (λ member. member ≡ spec.member_for kind field.now) }
+{
+    if field.is_empty() {
+        return Ok(Some(Seq::from_slice(alloc, b"ALL")?));
+    }
+    if is_text(field, b"-") {
+        return Ok(None);
+    }
+    Ok(Some(name_text(alloc, kind, field)?))
+}
+
+// Returns the member that a triple adds to the list of a netgroup, if any.
+fn member_of(
+    alloc: Global,
+    kind: Members,
+    name: &[u8],
+    triple: &Triple,
+) -> Result<Option<Seq<u8>>, AllocError>
+    ensures { IfOk result (λ member. member ≡ spec.member_of kind name.now triple.now) }
+{
+    if !is_text(triple.netgroup.as_slice(), name) {
+        return Ok(None);
+    }
+    member_for(alloc, kind, field_in(kind, triple))
+}
+
+// Appends a member to a list, behind a comma and this sign if it is not the first.
+fn push_member(sign: &[u8], member: Seq<u8>, list: &mut Seq<u8>) -> Result<(), AllocError>
+    ensures { OnOk result (list.new ≡ spec.with_member sign.now list.old member) }
+{
+    if !list.is_empty() {
+        list.push(b',')?;
+        list.extend_from_slice(sign)?;
+    }
+    list.append(member)
+}
+
+// Appends the member that a triple adds to the list of a netgroup, if any.
+fn push_triple(
+    alloc: Global,
+    kind: Members,
+    sign: &[u8],
+    name: &[u8],
+    triple: &Triple,
+    list: &mut Seq<u8>,
+) -> Result<(), AllocError>
+    ensures { OnOk result (list.new
+        ≡ spec.with_member_if sign.now list.old (spec.member_of kind name.now triple.now)) }
+{
+    match member_of(alloc, kind, name, triple)? {
+        Some(member) => push_member(sign, member, list),
+        None => Ok(()),
+    }
+}
+
+// Returns the list of the members that triples add to that of a netgroup.
+fn members_of(
+    alloc: Global,
+    kind: Members,
+    sign: &[u8],
+    name: &[u8],
+    triples: &[Triple],
+) -> Result<Seq<u8>, AllocError>
+    ensures { IfOk result (λ list. list ≡ spec.members_of kind sign.now name.now triples.now) }
+{
+    let mut list = Seq::new(alloc);
+    let mut left = triples;
+    while let Some((triple, rest)) = left.split_first() {
+        push_triple(alloc, kind, sign, name, triple, &mut list)?;
+        left = rest;
+    }
+    Ok(list)
+}
+
+// Returns what stands for a netgroup without members.
+fn nobody(kind: Members) -> &'static [u8]
+    ensures { result.now ≡ spec.nobody kind }
+{
+    match kind {
+        Members::Users => b"\\x00",
+        Members::Hosts => b"[z-a]",
+    }
+}
+
+/// Returns the list that stands for a netgroup: its members of a kind, each but the first behind a comma and a sign, or one that
+/// nobody is. Returns `AllocError` if allocation fails.
+pub(crate) fn list_for(
+    alloc: Global,
+    kind: Members,
+    known: &[Triple],
+    sign: &[u8],
+    name: &[u8],
+) -> Result<Seq<u8>, AllocError>
+    ensures { IfOk result (λ list. list ≡ spec.list_for kind known.now sign.now name.now) }
+{
+    let list = members_of(alloc, kind, sign, name, known)?;
+    if list.is_empty() {
+        return Seq::from_slice(alloc, nobody(kind));
+    }
+    Ok(list)
+}
+
+// Whether a netgroup is known.
+fn is_known(known: &[Triple], name: &[u8]) -> bool
+    ensures { result ≡ spec.is_known known.now name.now }
+{
+    known
+        .iter()
+        .any(|triple| is_text(triple.netgroup.as_slice(), name))
+}
+
+// Returns the offset of the plus sign of a netgroup at an offset.
+fn plus_at(text: &[u8], at: usize) -> usize
+    requires { at ≤ length text.now }
+    ensures plus { result ≡ spec.plus_at text.now at }
+    ensures near { result ≤ at + 1 }
+{
+    if peek(text, at) == b'"' { at + 1 } else { at }
+}
+
+// Whether a byte may stand in a name between double quotes.
+fn is_quoted_byte(byte: u8) -> bool
+    ensures { result ≡ spec.is_quoted_byte byte }
+{
+    !(is_control(byte) || byte == b'"' || byte == b'\\')
+}
+
+// Whether a byte may stand in a name without double quotes.
+fn is_bare_byte(byte: u8) -> bool
+    ensures { result ≡ spec.is_bare_byte byte }
+{
+    is_quoted_byte(byte) && !(is_blank(byte) || is_mark_byte(byte) || byte == b'#')
+}
+
+// Returns the number of bytes of a name that begin a text.
+fn name_len(text: &[u8], quoted: bool) -> usize
+    ensures len { result ≡ length (take_while (spec.name_byte quoted) text.now) }
+    ensures within { result ≤ length text.now }
+{
+    if quoted {
+        text.iter()
+            .take_while(|byte| is_quoted_byte(**byte))
+            .count()
+    } else {
+        text.iter().take_while(|byte| is_bare_byte(**byte)).count()
+    }
+}
+
+/// Returns the name of the netgroup at an offset.
+#[tactic(auto, using(crate::proofs::Fronts::take_front))]
+pub(crate) fn netgroup_at(text: &[u8], at: usize) -> &[u8]
+    requires { at ≤ length text.now }
+    ensures name { result.now ≡ spec.netgroup_at text.now at }
+    ensures within { at + length result.now ≤ length text.now }
+{
+    let rest = from(text, plus_at(text, at) + 1);
+    &rest[..name_len(rest, peek(text, at) == b'"')]
+}
+
+// Returns the offset behind that name.
+fn netgroup_stop(text: &[u8], at: usize) -> usize
+    requires { at ≤ length text.now }
+    ensures stop { result ≡ spec.netgroup_stop text.now at }
+    ensures within { result ≤ length text.now + 2 }
+{
+    plus_at(text, at) + 1 + netgroup_at(text, at).len()
+}
+
+/// Returns the end of the netgroup at an offset.
+pub(crate) fn netgroup_end(text: &[u8], at: usize) -> usize
+    requires { at ≤ length text.now }
+    ensures { result ≡ spec.netgroup_end text.now at }
+{
+    let stop = netgroup_stop(text, at);
+    if peek(text, at) == b'"' {
+        stop + 1
+    } else {
+        stop
+    }
+}
+
+// Whether the name of a netgroup at an offset ends as one may.
+fn ends_name(text: &[u8], at: usize) -> bool
+    requires { at ≤ length text.now }
+    ensures { result ≡ spec.ends_name text.now at }
+{
+    let next = peek(text, netgroup_stop(text, at));
+    if peek(text, at) == b'"' {
+        next == b'"'
+    } else {
+        !(next == b'"' || next == b'\\')
+    }
+}
+
+/// Whether a netgroup that is known is spelled at an offset.
+#[tactic(auto, unfolding(crate::specs::Netgroups::spells_netgroup))]
+pub(crate) fn spells_netgroup(known: &[Triple], text: &[u8], at: usize) -> bool
+    requires { at ≤ length text.now }
+    ensures netgroup { result ≡ spec.spells_netgroup known.now text.now at }
+    ensures within { IsTrue result → at + 1 ≤ length text.now }
+{
+    peek(text, plus_at(text, at)) == b'+'
+        && ends_name(text, at)
+        && is_known(known, netgroup_at(text, at))
+}
+
+// Returns the number of exclamation marks and blanks that end a text.
+fn sign_len(text: &[u8]) -> usize
+    ensures len { result ≡ spec.sign_len text.now }
+    ensures within { result ≤ length text.now }
+{
+    text.iter()
+        .rev()
+        .take_while(|byte| is_blank(**byte) || **byte == b'!')
+        .count()
+}
+
+/// Returns the sign of the member that begins behind a text: `!` or nothing.
+pub(crate) fn sign_at(text: &[u8]) -> &'static [u8]
+    ensures { result.now ≡ spec.sign_at text.now }
+{
+    let marks = &text[text.len() - sign_len(text)..];
+    if marks.iter().filter(|byte| **byte == b'!').count() % 2 == 1 {
+        b"!"
+    } else {
+        b""
+    }
+}

@@ -1,0 +1,227 @@
+//! Where a form stands, and what stands in its place.
+ghost use Rattle.std.specs.Prelude.{◌≡◌, ℕ, ◌≤◌, ◌+◌, ◌++◌, ◌∷◌, ◌==◌, [], List, IfOk, MatchOption, OnOk, length, filter, if◌then◌else◌, not};
+ghost use Rattle.review_texts.specs.Masks as spec;
+ghost use Rattle.review_texts.specs.Masks.{Stands};
+ghost use Rattle.review_texts.specs.Notes.{note_path};
+
+use crate::bytes::is_text;
+use crate::digests::{digest_at, digest_end, digest_start};
+use crate::listed::netgroup_members;
+use crate::netgroups::netgroup_end;
+use crate::options::{name_at, option_end, value_at, value_of};
+use crate::places::{NO_PATH, digest_stands, list_stands, option_stands};
+use crate::{Note, Readable};
+use std::alloc::{AllocError, Global};
+use sudo_grammar::Unsupported;
+use sudo_text::{Line, Seq, TEXT_LIMIT};
+
+/// The end of a form, and what stands in its place.
+#[derive(Drop)]
+pub(crate) struct Standing {
+    pub(crate) end: usize,
+    pub(crate) put: Seq<u8>,
+}
+
+// Returns the note of an option, if it has one.
+fn option_note(name: &[u8]) -> Option<Note>
+    ensures { result ≡ spec.option_note name.now }
+{
+    if is_text(name, b"CHROOT") {
+        Some(Note::Chroot)
+    } else if is_text(name, b"NOTBEFORE") || is_text(name, b"NOTAFTER") {
+        Some(Note::Time)
+    } else {
+        None
+    }
+}
+
+// Returns how the path of a note begins.
+fn note_path(note: Note) -> &'static [u8]
+    ensures { result.now ≡ note_path note }
+{
+    match note {
+        Note::Digest => b"/d[z-a]",
+        Note::Time => b"/t[z-a]",
+        Note::Chroot => b"/c[z-a]",
+    }
+}
+
+// Returns what an option notes before its value.
+fn noted_letter(name: &[u8]) -> &'static [u8]
+    ensures { result.now ≡ spec.noted_letter name.now }
+{
+    if is_text(name, b"NOTBEFORE") {
+        b"b"
+    } else if is_text(name, b"NOTAFTER") {
+        b"a"
+    } else {
+        b""
+    }
+}
+
+// Returns the note of an option with this value, as a command before others; nothing for one without a note.
+fn noted_option(alloc: Global, name: &[u8], value: &[u8]) -> Result<Seq<u8>, AllocError>
+    ensures { IfOk result (λ text. text
+        ≡ spec.noted_option (spec.option_note name.now) name.now value.now) }
+{
+    let Some(note) = option_note(name) else {
+        return Ok(Seq::new(alloc));
+    };
+    let mut text = Seq::from_slice(alloc, note_path(note))?;
+    text.extend_from_slice(noted_letter(name))?;
+    text.extend_from_slice(value)?;
+    text.push(b',')?;
+    Ok(text)
+}
+
+// Returns what stands in place of the option that begins at an offset of a text.
+fn option_text(alloc: Global, text: &[u8], at: usize) -> Result<Seq<u8>, AllocError>
+    requires { at ≤ length text.now }
+    ensures { IfOk result (λ put. put ≡ spec.option_text text.now at) }
+{
+    noted_option(alloc, name_at(text, at), value_at(text, value_of(text, at)))
+}
+
+// Appends a value without its padding.
+fn push_unpadded(value: &[u8], text: &mut Seq<u8>) -> Result<(), AllocError>
+    ensures { OnOk result (text.new ≡ text.old ++ filter (λ b. not (b == 61)) value.now) }
+{
+    let mut left = value;
+    while let Some((byte, rest)) = left.split_first() {
+        push_unless_padding(*byte, text)?;
+        left = rest;
+    }
+    Ok(())
+}
+
+// Appends a byte that is no padding.
+fn push_unless_padding(byte: u8, text: &mut Seq<u8>) -> Result<(), AllocError>
+    ensures { OnOk result (text.new ≡ text.old ++ (if not (byte == 61) then byte ∷ [] else [])) }
+{
+    if byte != b'=' {
+        text.push(byte)?;
+    }
+    Ok(())
+}
+
+// Returns what stands in place of the digest that begins at an offset of a text.
+fn digest_text(alloc: Global, text: &[u8], at: usize) -> Result<Seq<u8>, AllocError>
+    requires { at + 7 ≤ length text.now }
+    ensures { IfOk result (λ put. put ≡ spec.digest_text text.now at) }
+{
+    let mut put = Seq::from_slice(alloc, b"/d[z-a]")?;
+    push_unpadded(digest_at(text, digest_start(text, at)), &mut put)?;
+    put.push(b',')?;
+    Ok(put)
+}
+
+// Returns the end of the option at an offset, and what stands in its place, if it stands there.
+fn option_standing(
+    alloc: Global,
+    readable: &Readable,
+    line: &Line,
+    at: usize,
+) -> Result<Option<Standing>, AllocError>
+    requires within { at ≤ length line.now.text }
+    requires short { length line.now.text + 16 ≤ TEXT_LIMIT }
+    ensures { IfOk result (λ found. MatchOption found
+        ((end : ℕ) (put : List ℕ)
+        → Stands readable.now line.now Unsupported.CommandOption at end put → ⊥)
+        (λ s. Stands readable.now line.now Unsupported.CommandOption at s.end s.put)) }
+{
+    if !option_stands(alloc, readable.noted, line, at)? {
+        return Ok(None);
+    }
+    let text = line.text.as_slice();
+    let put = option_text(alloc, text, at)?;
+    let end = option_end(text, at) + 1;
+    Ok(Some(Standing { end, put }))
+}
+
+// The same of `list`.
+fn list_standing(
+    alloc: Global,
+    readable: &Readable,
+    line: &Line,
+    at: usize,
+) -> Result<Option<Standing>, AllocError>
+    requires within { at ≤ length line.now.text }
+    requires short { length line.now.text + 16 ≤ TEXT_LIMIT }
+    ensures { IfOk result (λ found. MatchOption found
+        ((end : ℕ) (put : List ℕ) → Stands readable.now line.now Unsupported.List at end put → ⊥)
+        (λ s. Stands readable.now line.now Unsupported.List at s.end s.put)) }
+{
+    if !list_stands(alloc, line, at)? {
+        return Ok(None);
+    }
+    let put = Seq::from_slice(alloc, NO_PATH)?;
+    Ok(Some(Standing { end: at + 4, put }))
+}
+
+// The same of a digest.
+fn digest_standing(
+    alloc: Global,
+    readable: &Readable,
+    line: &Line,
+    at: usize,
+) -> Result<Option<Standing>, AllocError>
+    requires within { at ≤ length line.now.text }
+    requires short { length line.now.text + 16 ≤ TEXT_LIMIT }
+    ensures { IfOk result (λ found. MatchOption found
+        ((end : ℕ) (put : List ℕ)
+        → Stands readable.now line.now Unsupported.Digest at end put → ⊥)
+        (λ s. Stands readable.now line.now Unsupported.Digest at s.end s.put)) }
+{
+    if !readable.noted || !digest_stands(alloc, line, at)? {
+        return Ok(None);
+    }
+    let text = line.text.as_slice();
+    let put = digest_text(alloc, text, at)?;
+    let end = digest_end(text, at);
+    Ok(Some(Standing { end, put }))
+}
+
+// The same of a netgroup.
+fn netgroup_standing(
+    alloc: Global,
+    readable: &Readable,
+    line: &Line,
+    at: usize,
+) -> Result<Option<Standing>, AllocError>
+    requires within { at ≤ length line.now.text }
+    requires short { length line.now.text + 16 ≤ TEXT_LIMIT }
+    ensures { IfOk result (λ found. MatchOption found
+        ((end : ℕ) (put : List ℕ)
+        → Stands readable.now line.now Unsupported.Netgroup at end put → ⊥)
+        (λ s. Stands readable.now line.now Unsupported.Netgroup at s.end s.put)) }
+{
+    let Some(put) = netgroup_members(alloc, &readable.netgroups, line, at)? else {
+        return Ok(None);
+    };
+    let end = netgroup_end(line.text.as_slice(), at);
+    Ok(Some(Standing { end, put }))
+}
+
+/// Returns the end of a form that begins at an offset, and what stands in its place, if it stands there. Returns `AllocError` if
+/// allocation fails.
+pub(crate) fn stands(
+    alloc: Global,
+    readable: &Readable,
+    line: &Line,
+    form: Unsupported,
+    at: usize,
+) -> Result<Option<Standing>, AllocError>
+    requires within { at ≤ length line.now.text }
+    requires short { length line.now.text + 16 ≤ TEXT_LIMIT }
+    ensures { IfOk result (λ found. MatchOption found
+        ((end : ℕ) (put : List ℕ) → Stands readable.now line.now form at end put → ⊥)
+        (λ s. Stands readable.now line.now form at s.end s.put)) }
+{
+    match form {
+        Unsupported::CommandOption => option_standing(alloc, readable, line, at),
+        Unsupported::List => list_standing(alloc, readable, line, at),
+        Unsupported::Digest => digest_standing(alloc, readable, line, at),
+        Unsupported::Netgroup => netgroup_standing(alloc, readable, line, at),
+        _ => Ok(None),
+    }
+}
