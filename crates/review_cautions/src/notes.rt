@@ -25,14 +25,11 @@ fn is_note(note: Note, found: Option<Note>) -> bool
     }
 }
 
-// Whether an atom is a command that stands for a note. Paths of another length than those of notes need not be read.
+// Whether an atom is a command that stands for a note.
 fn stands_for(note: Note, atom: &Atom) -> bool
     ensures { result ≡ spec.stands_for note atom.now }
 {
-    match atom {
-        Atom::Command { path, args: None } => path.len() == 7 && is_note(note, note_in(atom)),
-        _ => false,
-    }
+    is_note(note, note_in(atom))
 }
 
 // Whether one of the members stands for a note.

@@ -1,8 +1,9 @@
 //! What is noted and not judged.
-ghost use Rattle.std.specs.Prelude.{◌≡◌, take};
+ghost use Rattle.std.specs.Prelude.{◌≡◌, find, take};
 ghost use Rattle.std.specs.Str.{bytes_eq};
 ghost use Rattle.sudo_grammar.specs.Words.{bytes_of, has_no_escape};
 ghost use Rattle.review_texts.specs.Notes as spec;
+ghost use Rattle.review_texts.specs.Notes.{note_path, notes};
 
 use sudo_grammar::Atom;
 use sudo_text::Ch;
@@ -57,14 +58,10 @@ fn front_of(path: &[Ch]) -> &[Ch]
     if path.len() > 7 { &path[..7] } else { path }
 }
 
-// Returns the note for which a path without arguments stands, if it does.
-fn note_of(path: &[Ch]) -> Option<Note>
-    ensures { result ≡ spec.note_of path.now }
+// Returns the note for which a path stands that begins so, if it does.
+fn named_note(front: &[Ch]) -> Option<Note>
+    ensures { result ≡ find (λ note. bytes_eq (bytes_of front.now) (note_path note)) notes }
 {
-    if !is_unescaped(path) {
-        return None;
-    }
-    let front = front_of(path);
     if spells(front, b"/d[z-a]") {
         Some(Note::Digest)
     } else if spells(front, b"/t[z-a]") {
@@ -74,6 +71,14 @@ fn note_of(path: &[Ch]) -> Option<Note>
     } else {
         None
     }
+}
+
+// Returns the note for which a path without arguments stands, if it does.
+fn note_of(path: &[Ch]) -> Option<Note>
+    ensures { result ≡ spec.note_of path.now }
+{
+    let note = named_note(front_of(path))?;
+    if is_unescaped(path) { Some(note) } else { None }
 }
 
 /// Returns the note for which a command stands, if it does.
