@@ -9,7 +9,7 @@ use crate::compare::compare_run;
 use crate::grants::{ScopeNames, grants_run};
 use crate::links::machine_links;
 use crate::machine_file::MachineFileFault;
-use crate::policy_files::{pair_files, policy_files};
+use crate::policy_files::{MaskedFiles, pair_files, policy_files};
 use crate::program_name::PROGRAM;
 use crate::report::{Form, report_into};
 use crate::request::{Asked, PairPaths, Paths, PolicyPath};
@@ -23,11 +23,53 @@ use clap::Error;
 use clap::error::ErrorKind;
 use review_cautions::{CautionClass, Link, usual_links};
 use review_grants::Sought;
-use run_base::{OpenFault, SystemOpener, open, report_explained};
+use run_base::{Fails, OpenFault, SystemOpener, open, report_explained};
 use std::alloc::AllocError;
 use std::env;
+use std::fs::File;
 use std::sync::Wait;
 use std::thread::Threads;
+
+// The files that a command reads: those of the policy, of users, of hosts and of requests.
+#[derive(Drop)]
+struct CommandFiles<'a> {
+    policy: MaskedFiles<'a>,
+    opened: OpenedFiles<Device<File>>,
+}
+
+// Prints why a command does not run, and returns the exit status.
+fn refused<F: Fails>(rt: &HostRuntime, fault: F) -> u8 {
+    let mut err = Device::new(rt.stderr());
+    report_explained(rt.alloc(), PROGRAM, fault, &mut err)
+}
+
+// Opens the files of users, of hosts and of the requests that the words `NAME=PATH` name. Returns the exit status, with the fault
+// printed, if one is not opened.
+fn opened_files(
+    rt: &HostRuntime,
+    users: &str,
+    hosts: &str,
+    words: &[&str],
+) -> Result<OpenedFiles<Device<File>>, u8> {
+    match open_all(rt.alloc(), &SystemOpener::new(rt), users, hosts, words) {
+        Ok(opened) => Ok(opened),
+        Err(fault) => Err(refused(rt, fault)),
+    }
+}
+
+// Opens the files that a command reads. Returns the exit status, with the fault printed, if one is not opened.
+fn command_files<'a>(
+    rt: &'a HostRuntime,
+    paths: Paths<'_>,
+    words: &[&str],
+) -> Result<CommandFiles<'a>, u8> {
+    let policy = match policy_files(rt, paths.policy) {
+        Ok(files) => files,
+        Err(fault) => return Err(refused(rt, fault)),
+    };
+    let opened = opened_files(rt, paths.users, paths.hosts, words)?;
+    Ok(CommandFiles { policy, opened })
+}
 
 // Answers the requests of the files that the words `NAME=PATH` name, under a policy, and returns the exit status.
 // `threads` is the runtime, if it can start threads.
@@ -41,41 +83,27 @@ fn run_report<T: Threads + Wait + Sync>(
 ) -> u8
     requires { (1 ≤ workers) × (workers ≤ 16) }
 {
-    let alloc = rt.alloc();
-    let mut out = Device::new(rt.stdout());
-    let mut err = Device::new(rt.stderr());
-    let mut files = match policy_files(rt, paths.policy) {
+    let CommandFiles { mut policy, opened } = match command_files(rt, paths, words) {
         Ok(files) => files,
-        Err(refused) => return report_explained(alloc, PROGRAM, refused, &mut err),
+        Err(status) => return status,
     };
-    match open_all(
-        alloc,
-        &SystemOpener::new(rt),
-        paths.users,
-        paths.hosts,
-        words,
-    ) {
-        Ok(opened) => {
-            let OpenedFiles {
-                mut users,
-                mut hosts,
-                sources,
-            } = opened;
-            report_into(
-                alloc,
-                threads,
-                paths.policy.file.as_bytes(),
-                &mut files,
-                &mut users,
-                &mut hosts,
-                Work { sources, workers },
-                form,
-                &mut out,
-                &mut err,
-            )
-        }
-        Err(fault) => report_explained(alloc, PROGRAM, fault, &mut err),
-    }
+    let OpenedFiles {
+        mut users,
+        mut hosts,
+        sources,
+    } = opened;
+    report_into(
+        rt.alloc(),
+        threads,
+        paths.policy.file.as_bytes(),
+        &mut policy,
+        &mut users,
+        &mut hosts,
+        Work { sources, workers },
+        form,
+        &mut Device::new(rt.stdout()),
+        &mut Device::new(rt.stderr()),
+    )
 }
 
 // Returns the links of the machine: those of the file at a path, or the usual ones.
@@ -95,18 +123,15 @@ fn links_at(rt: &HostRuntime, path: Option<&str>) -> Result<Vec<Link>, MachineFi
 
 // Lists the findings on a policy, and returns the exit status.
 fn run_check(rt: &HostRuntime, policy: PolicyPath<'_>) -> u8 {
-    let alloc = rt.alloc();
-    let mut out = Device::new(rt.stdout());
-    let mut err = Device::new(rt.stderr());
     match policy_files(rt, policy) {
         Ok(mut files) => check_run(
-            alloc,
+            rt.alloc(),
             policy.file.as_bytes(),
             &mut files,
-            &mut out,
-            &mut err,
+            &mut Device::new(rt.stdout()),
+            &mut Device::new(rt.stderr()),
         ),
-        Err(refused) => report_explained(alloc, PROGRAM, refused, &mut err),
+        Err(fault) => refused(rt, fault),
     }
 }
 
@@ -117,181 +142,117 @@ fn run_cautions(
     links: Option<&str>,
     without: &[CautionClass],
 ) -> u8 {
-    let alloc = rt.alloc();
-    let mut out = Device::new(rt.stdout());
-    let mut err = Device::new(rt.stderr());
     let mut files = match policy_files(rt, policy) {
         Ok(files) => files,
-        Err(refused) => return report_explained(alloc, PROGRAM, refused, &mut err),
+        Err(fault) => return refused(rt, fault),
     };
     match links_at(rt, links) {
         Ok(links) => cautions_run(
-            alloc,
+            rt.alloc(),
             policy.file.as_bytes(),
             &mut files,
             &links,
             without,
-            &mut out,
-            &mut err,
+            &mut Device::new(rt.stdout()),
+            &mut Device::new(rt.stderr()),
         ),
-        Err(fault) => report_explained(alloc, PROGRAM, fault, &mut err),
+        Err(fault) => refused(rt, fault),
     }
 }
 
 // Lists the grants of a policy, and returns the exit status.
 fn run_grants(rt: &HostRuntime, paths: Paths<'_>, names: ScopeNames<'_>) -> u8 {
-    let alloc = rt.alloc();
-    let mut out = Device::new(rt.stdout());
-    let mut err = Device::new(rt.stderr());
-    let mut files = match policy_files(rt, paths.policy) {
+    let mut files = match command_files(rt, paths, &[]) {
         Ok(files) => files,
-        Err(refused) => return report_explained(alloc, PROGRAM, refused, &mut err),
+        Err(status) => return status,
     };
-    match open_all(alloc, &SystemOpener::new(rt), paths.users, paths.hosts, &[]) {
-        Ok(opened) => {
-            let OpenedFiles {
-                mut users,
-                mut hosts,
-                ..
-            } = opened;
-            grants_run(
-                alloc,
-                paths.policy.file.as_bytes(),
-                &mut files,
-                &mut users,
-                &mut hosts,
-                names,
-                &mut out,
-                &mut err,
-            )
-        }
-        Err(fault) => report_explained(alloc, PROGRAM, fault, &mut err),
-    }
+    grants_run(
+        rt.alloc(),
+        paths.policy.file.as_bytes(),
+        &mut files.policy,
+        &mut files.opened.users,
+        &mut files.opened.hosts,
+        names,
+        &mut Device::new(rt.stdout()),
+        &mut Device::new(rt.stderr()),
+    )
 }
 
 // Lists who may run a command under a policy, and returns the exit status.
 fn run_who(rt: &HostRuntime, paths: Paths<'_>, sought: Sought<'_>) -> u8 {
-    let alloc = rt.alloc();
-    let mut out = Device::new(rt.stdout());
-    let mut err = Device::new(rt.stderr());
-    let mut files = match policy_files(rt, paths.policy) {
+    let mut files = match command_files(rt, paths, &[]) {
         Ok(files) => files,
-        Err(refused) => return report_explained(alloc, PROGRAM, refused, &mut err),
+        Err(status) => return status,
     };
-    match open_all(alloc, &SystemOpener::new(rt), paths.users, paths.hosts, &[]) {
-        Ok(opened) => {
-            let OpenedFiles {
-                mut users,
-                mut hosts,
-                ..
-            } = opened;
-            who_run(
-                alloc,
-                paths.policy.file.as_bytes(),
-                &mut files,
-                &mut users,
-                &mut hosts,
-                sought,
-                &mut out,
-                &mut err,
-            )
-        }
-        Err(fault) => report_explained(alloc, PROGRAM, fault, &mut err),
-    }
+    who_run(
+        rt.alloc(),
+        paths.policy.file.as_bytes(),
+        &mut files.policy,
+        &mut files.opened.users,
+        &mut files.opened.hosts,
+        sought,
+        &mut Device::new(rt.stdout()),
+        &mut Device::new(rt.stderr()),
+    )
 }
 
 // Lists who can become root under a policy, and returns the exit status.
 fn run_roots(rt: &HostRuntime, paths: Paths<'_>, all: bool) -> u8 {
-    let alloc = rt.alloc();
-    let mut out = Device::new(rt.stdout());
-    let mut err = Device::new(rt.stderr());
-    let mut files = match policy_files(rt, paths.policy) {
+    let mut files = match command_files(rt, paths, &[]) {
         Ok(files) => files,
-        Err(refused) => return report_explained(alloc, PROGRAM, refused, &mut err),
+        Err(status) => return status,
     };
-    match open_all(alloc, &SystemOpener::new(rt), paths.users, paths.hosts, &[]) {
-        Ok(opened) => {
-            let OpenedFiles {
-                mut users,
-                mut hosts,
-                ..
-            } = opened;
-            roots_run(
-                alloc,
-                paths.policy.file.as_bytes(),
-                &mut files,
-                &mut users,
-                &mut hosts,
-                all,
-                &mut out,
-                &mut err,
-            )
-        }
-        Err(fault) => report_explained(alloc, PROGRAM, fault, &mut err),
-    }
+    roots_run(
+        rt.alloc(),
+        paths.policy.file.as_bytes(),
+        &mut files.policy,
+        &mut files.opened.users,
+        &mut files.opened.hosts,
+        all,
+        &mut Device::new(rt.stdout()),
+        &mut Device::new(rt.stderr()),
+    )
 }
 
 // Lists what of a policy reaches nobody, and returns the exit status.
 fn run_subjects(rt: &HostRuntime, paths: Paths<'_>) -> u8 {
-    let alloc = rt.alloc();
-    let mut out = Device::new(rt.stdout());
-    let mut err = Device::new(rt.stderr());
-    let mut files = match policy_files(rt, paths.policy) {
+    let mut files = match command_files(rt, paths, &[]) {
         Ok(files) => files,
-        Err(refused) => return report_explained(alloc, PROGRAM, refused, &mut err),
+        Err(status) => return status,
     };
-    match open_all(alloc, &SystemOpener::new(rt), paths.users, paths.hosts, &[]) {
-        Ok(opened) => {
-            let OpenedFiles {
-                mut users,
-                mut hosts,
-                ..
-            } = opened;
-            subjects_run(
-                alloc,
-                paths.policy.file.as_bytes(),
-                &mut files,
-                &mut users,
-                &mut hosts,
-                &mut out,
-                &mut err,
-            )
-        }
-        Err(fault) => report_explained(alloc, PROGRAM, fault, &mut err),
-    }
+    subjects_run(
+        rt.alloc(),
+        paths.policy.file.as_bytes(),
+        &mut files.policy,
+        &mut files.opened.users,
+        &mut files.opened.hosts,
+        &mut Device::new(rt.stdout()),
+        &mut Device::new(rt.stderr()),
+    )
 }
 
 // Lists what a change of a policy does, and returns the exit status.
 fn run_compare(rt: &HostRuntime, paths: PairPaths<'_>, names: ScopeNames<'_>) -> u8 {
-    let alloc = rt.alloc();
-    let mut out = Device::new(rt.stdout());
-    let mut err = Device::new(rt.stderr());
     let (mut before, mut after) = match pair_files(rt, paths.netgroups) {
         Ok(pair) => pair,
-        Err(refused) => return report_explained(alloc, PROGRAM, refused, &mut err),
+        Err(fault) => return refused(rt, fault),
     };
-    match open_all(alloc, &SystemOpener::new(rt), paths.users, paths.hosts, &[]) {
-        Ok(opened) => {
-            let OpenedFiles {
-                mut users,
-                mut hosts,
-                ..
-            } = opened;
-            compare_run(
-                alloc,
-                paths.old.as_bytes(),
-                &mut before,
-                paths.new.as_bytes(),
-                &mut after,
-                &mut users,
-                &mut hosts,
-                names,
-                &mut out,
-                &mut err,
-            )
-        }
-        Err(fault) => report_explained(alloc, PROGRAM, fault, &mut err),
-    }
+    let mut opened = match opened_files(rt, paths.users, paths.hosts, &[]) {
+        Ok(opened) => opened,
+        Err(status) => return status,
+    };
+    compare_run(
+        rt.alloc(),
+        paths.old.as_bytes(),
+        &mut before,
+        paths.new.as_bytes(),
+        &mut after,
+        &mut opened.users,
+        &mut opened.hosts,
+        names,
+        &mut Device::new(rt.stdout()),
+        &mut Device::new(rt.stderr()),
+    )
 }
 
 // Lists the requests that a change of a policy answers otherwise, and returns the exit status. `threads` is the runtime, if it
@@ -302,42 +263,31 @@ fn run_changes<T: Threads + Wait + Sync>(
     paths: PairPaths<'_>,
     words: &[&str],
 ) -> u8 {
-    let alloc = rt.alloc();
-    let mut out = Device::new(rt.stdout());
-    let mut err = Device::new(rt.stderr());
     let (mut before, mut after) = match pair_files(rt, paths.netgroups) {
         Ok(pair) => pair,
-        Err(refused) => return report_explained(alloc, PROGRAM, refused, &mut err),
+        Err(fault) => return refused(rt, fault),
     };
-    match open_all(
-        alloc,
-        &SystemOpener::new(rt),
-        paths.users,
-        paths.hosts,
-        words,
-    ) {
-        Ok(opened) => {
-            let OpenedFiles {
-                mut users,
-                mut hosts,
-                sources,
-            } = opened;
-            changes_run(
-                alloc,
-                threads,
-                paths.old.as_bytes(),
-                &mut before,
-                paths.new.as_bytes(),
-                &mut after,
-                &mut users,
-                &mut hosts,
-                sources,
-                &mut out,
-                &mut err,
-            )
-        }
-        Err(fault) => report_explained(alloc, PROGRAM, fault, &mut err),
-    }
+    let OpenedFiles {
+        mut users,
+        mut hosts,
+        sources,
+    } = match opened_files(rt, paths.users, paths.hosts, words) {
+        Ok(opened) => opened,
+        Err(status) => return status,
+    };
+    changes_run(
+        rt.alloc(),
+        threads,
+        paths.old.as_bytes(),
+        &mut before,
+        paths.new.as_bytes(),
+        &mut after,
+        &mut users,
+        &mut hosts,
+        sources,
+        &mut Device::new(rt.stdout()),
+        &mut Device::new(rt.stderr()),
+    )
 }
 
 // Returns the bytes of a text, where one is given.
@@ -406,8 +356,7 @@ fn run<T: Threads + Wait + Sync>(rt: &HostRuntime, threads: &T, asked: Asked<'_>
 // to standard output, with status 0, and a mistake in the words to standard error, with status 2.
 fn refuse(rt: &HostRuntime, error: &Error) -> u8 {
     if error.kind() == ErrorKind::OutOfMemory {
-        let mut err = Device::new(rt.stderr());
-        return report_explained(rt.alloc(), PROGRAM, AllocError, &mut err);
+        return refused(rt, AllocError);
     }
     let printed = error.print(rt);
     if error.use_stderr() {

@@ -6,7 +6,8 @@ use Rattle.sudo_text.specs.declared.line.Line.{Line}
 use Rattle.review_texts.specs.declared.netgroups.Members.{Members}
 use Rattle.review_texts.specs.declared.netgroups.Members.TheVariants.{Users, Hosts}
 use Rattle.review_texts.specs.Places.{IsListOf, IsMembers, list_at}
-use Rattle.review_texts.specs.Netgroups.{member_of, with_member, with_member_if}
+use Rattle.review_texts.specs.Body.MemberLists.{with_member_if}
+use Rattle.review_texts.specs.Netgroups.{member_of, with_member}
 
 -- a list behind the members of these triples
 abbrev pub behind_all : List ℕ → Members → List ℕ → List ℕ → List Triple → List ℕ

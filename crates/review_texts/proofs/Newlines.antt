@@ -71,7 +71,8 @@ count_kept p (x ∷ xs) none =
     let whole = count_append (x ∷ []) xs in
     by (p x) (omega (arith, none, whole)) (count_kept p xs (omega (arith, none, whole)))
   where
-    by : (b : Bool) → newline_count (x ∷ []) ≡ 0 → newline_count (filter p xs) ≡ 0 → newline_count (cond b (x ∷ filter p xs) (filter p xs)) ≡ 0
+    by : (b : Bool) → newline_count (x ∷ []) ≡ 0 → newline_count (filter p xs) ≡ 0
+        → newline_count (cond b (x ∷ filter p xs) (filter p xs)) ≡ 0
     by true here rest = count_append (x ∷ []) (filter p xs) ∙ (omega (arith, here, rest))
     by false here rest = rest
 

@@ -43,10 +43,6 @@ member_of kind name t = if bytes_eq t.netgroup name then member_for kind (field_
 abbrev pub with_member : List ℕ → List ℕ → List ℕ → List ℕ
 with_member sign list member = if is_empty list then member else list ++ (44 ∷ sign ++ member)
 
-abbrev pub with_member_if : List ℕ → List ℕ → Option (List ℕ) → List ℕ
-with_member_if sign list None = list
-with_member_if sign list (Some member) = with_member sign list member
-
 -- the list of the members that triples add; each but the first has a sign
 abbrev pub members_of : Members → List ℕ → List ℕ → List Triple → List ℕ
 members_of kind sign name triples = fold (with_member sign) [] (filter_map (member_of kind name) triples)

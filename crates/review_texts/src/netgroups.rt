@@ -3,6 +3,7 @@ ghost use Rattle.std.specs.Prelude.{◌≡◌, ◌≤◌, ◌<◌, ◌+◌, ◌+
 ghost use Rattle.std.specs.List.{list_all, list_any, take_while};
 ghost use Rattle.sudo_grammar.specs.Words as words;
 ghost use Rattle.sudo_parser.specs.Texts.{user_text};
+ghost use Rattle.review_texts.specs.Body.MemberLists.{with_member_if};
 ghost use Rattle.review_texts.specs.Netgroups as spec;
 
 use crate::bytes::{from, is_blank, is_control, is_mark_byte, is_text, peek};
@@ -128,7 +129,7 @@ fn push_triple(
     list: &mut Seq<u8>,
 ) -> Result<(), AllocError>
     ensures { OnOk result (list.new
-        ≡ spec.with_member_if sign.now list.old (spec.member_of kind name.now triple.now)) }
+        ≡ with_member_if sign.now list.old (spec.member_of kind name.now triple.now)) }
 {
     match member_of(alloc, kind, name, triple)? {
         Some(member) => push_member(sign, member, list),

@@ -25,4 +25,5 @@ pub returns : goal.returns
 returns c =
     let none : c.loop-left.left ≡ 0 = omega arith in
     c.loop-left.invariant c.loop-left.line
-    (subst (λ (n : ℕ). IsBehind c.args.readable.now n c.loop-left.line c.loop-left.line) (sym none) (behind_none c.args.readable.now c.loop-left.line))
+    (subst (λ (n : ℕ). IsBehind c.args.readable.now n c.loop-left.line c.loop-left.line) (sym none)
+    (behind_none c.args.readable.now c.loop-left.line))

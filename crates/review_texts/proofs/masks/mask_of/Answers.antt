@@ -9,4 +9,5 @@ returns-in_default c =
 pub returns : goal.returns
 returns c =
     let refused = rw c.in-Some.is at c.in_ok-form.ensures in
-    masked_by c.args.readable.now c.args.line.now c.in-Some.form c.in_ok-found.found (cc (c.is_fit.ensures.fit)) refused c.in_ok-found.ensures
+    masked_by c.args.readable.now c.args.line.now c.in-Some.form c.in_ok-found.found (cc (c.is_fit.ensures.fit)) refused
+    c.in_ok-found.ensures
