@@ -1,5 +1,6 @@
 //! Where a form stands, and what stands in its place.
-ghost use Rattle.std.specs.Prelude.{◌≡◌, ℕ, ◌≤◌, ◌+◌, ◌++◌, ◌∷◌, ◌==◌, [], List, IfOk, MatchOption, OnOk, length, filter, if◌then◌else◌, not};
+ghost use Rattle.std.specs.Prelude.{◌≡◌, ℕ, ◌≤◌, ◌+◌, ◌++◌, ◌∷◌, ◌==◌, [], List, IfOk};
+ghost use Rattle.std.specs.Prelude.{MatchOption, OnOk, length, filter, if◌then◌else◌, not};
 ghost use Rattle.review_texts.specs.Masks as spec;
 ghost use Rattle.review_texts.specs.Masks.{Stands};
 ghost use Rattle.review_texts.specs.Notes.{note_path};
