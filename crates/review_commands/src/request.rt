@@ -35,27 +35,28 @@ pub enum Asked<'a> {
     Check {
         policy: PolicyPath<'a>,
     },
-    /// `cautions FILE [--root DIR] [--netgroups F] [--links F] [--without CLASS]...`: lists what sudo reads or judges otherwise on a machine that
-    /// has the links of a file, or the usual ones, but for some classes.
+    /// `cautions FILE [--root DIR] [--netgroups F] [--links F] [--without CLASS]...`: lists what sudo reads or judges otherwise on
+    /// a machine that has the links of a file, or the usual ones, but for some classes.
     Cautions {
         policy: PolicyPath<'a>,
         links: Option<&'a str>,
         without: Vec<CautionClass>,
     },
-    /// `grants FILE [--root DIR] [--netgroups F] --users F --hosts F [--user NAME] [--host NAME]`: lists the grants of a policy, with the known
-    /// users and hosts of each.
+    /// `grants FILE [--root DIR] [--netgroups F] --users F --hosts F [--user NAME] [--host NAME]`: lists the grants of a policy,
+    /// with the known users and hosts of each.
     Grants {
         paths: Paths<'a>,
         user: Option<&'a str>,
         host: Option<&'a str>,
     },
-    /// `roots FILE [--root DIR] [--netgroups F] --users F --hosts F [--all]`: lists who can become root, also by listed commands alone if `all`.
+    /// `roots FILE [--root DIR] [--netgroups F] --users F --hosts F [--all]`: lists who can become root, also by listed commands
+    /// alone if `all`.
     Roots {
         paths: Paths<'a>,
         all: bool,
     },
-    /// `who FILE [--root DIR] [--netgroups F] --users F --hosts F --command PATH [--arguments TEXT] [--runas USER]`: lists who may run a command,
-    /// and on which host.
+    /// `who FILE [--root DIR] [--netgroups F] --users F --hosts F --command PATH [--arguments TEXT] [--runas USER]`: lists who may
+    /// run a command, and on which host.
     Who {
         paths: Paths<'a>,
         command: &'a str,
@@ -66,27 +67,31 @@ pub enum Asked<'a> {
     Subjects {
         paths: Paths<'a>,
     },
-    /// `rules FILE [--root DIR] [--netgroups F] --users F --hosts F [--workers N] [NAME=PATH]...`: counts the requests that each rule decides.
+    /// `rules FILE [--root DIR] [--netgroups F] --users F --hosts F [--workers N] [NAME=PATH]...`: counts the requests that each
+    /// rule decides.
     Rules {
         paths: Paths<'a>,
         workers: u32,
         /// The words `NAME=PATH`, as given.
         senders: Vec<&'a str>,
     },
-    /// `report FILE [--root DIR] [--netgroups F] --users F --hosts F [--workers N] [NAME=PATH]...`: answers requests, each beside its answer.
+    /// `report FILE [--root DIR] [--netgroups F] --users F --hosts F [--workers N] [NAME=PATH]...`: answers requests, each beside
+    /// its answer.
     Report {
         paths: Paths<'a>,
         workers: u32,
         /// The words `NAME=PATH`, as given.
         senders: Vec<&'a str>,
     },
-    /// `compare OLD NEW [--netgroups F] --users F --hosts F [--user NAME] [--host NAME]`: lists what a change of a policy does, for every command.
+    /// `compare OLD NEW [--netgroups F] --users F --hosts F [--user NAME] [--host NAME]`: lists what a change of a policy does, for
+    /// every command.
     Compare {
         paths: PairPaths<'a>,
         user: Option<&'a str>,
         host: Option<&'a str>,
     },
-    /// `compare OLD NEW [--netgroups F] --users F --hosts F --requests NAME=PATH...`: lists the requests that a change of a policy answers otherwise.
+    /// `compare OLD NEW [--netgroups F] --users F --hosts F --requests NAME=PATH...`: lists the requests that a change of a policy
+    /// answers otherwise.
     Changes {
         paths: PairPaths<'a>,
         /// The words `NAME=PATH`, as given: at least one.
