@@ -23,7 +23,8 @@ use Rattle.review_compare.specs.declared.block.Block.{Block}
 use Rattle.review_compare.specs.declared.block.BlockRow.{BlockRow}
 use Rattle.review_compare.specs.declared.block.Head.{Head}
 use Rattle.review_compare.specs.declared.block.InForce.{InForce}
-use Rattle.review_compare.specs.Blocks.{Wide, wide_of, block_wides, block_resolves, AreBlocks}
+use Rattle.review_compare.specs.Blocks.{AreGrants, block_resolves, block_wides}
+use Rattle.review_compare.specs.Cells.{Wide, wide_of}
 use Rattle.review_compare.specs.Body.Heads.{IsInForce, row_answered, signed_answered, answered_wide, signed_wide, head_resolves}
 use Rattle.review_roots.proofs.ListSteps.{take-more, take-enumerated, flat-one, all-push, all-taken, all-there, map-same, map-twice}
 
@@ -137,7 +138,7 @@ grants-more f xs i x first old new within is so_far more =
 -- all entries
 pub entries-all :
     (p : Policy) (blocks : List Block) (i : ℕ) → length p.entries ≤ i →
-    flat_map block_wides blocks ≡ map wide_of (flat_map (entry_grants p) (take i p.entries)) → AreBlocks p blocks
+    flat_map block_wides blocks ≡ map wide_of (flat_map (entry_grants p) (take i p.entries)) → AreGrants p blocks
 unfolding grants
 entries-all p blocks i all so_far =
     so_far ∙ ap (λ (es : List Entry). map wide_of (flat_map (entry_grants p) es)) (take_all i p.entries all)

@@ -1,11 +1,11 @@
 -- The rows in which two lists differ, and the rows near them.
-use Rattle.std.proofs.Common.{◌≡◌, ◌≤◌, ◌+◌, ◌-◌, ◌∙◌, ℕ, Bool, true, false, cond, not, ◌||◌, List, [], ◌∷◌, ◌++◌, map, drop}
+use Rattle.std.proofs.Common.{◌≡◌, ◌≤◌, ◌+◌, ◌-◌, ◌∙◌, ℕ, Bool, true, false, cond, not, ◌&&◌, ◌||◌, List, [], ◌∷◌, ◌++◌, map, drop}
 use Rattle.std.proofs.Common.{ap, arith, refl, sym, Option, Some, None, length, take, length-drop}
 use Rattle.std.specs.Prelude.{filter, option_map}
 use Rattle.std.specs.Option.{option_or}
 use Rattle.std.proofs.lemmas.List.{map-append, take-append-drop, take_all}
+use Rattle.std.proofs.lemmas.Bool.{and_parts}
 use Rattle.std.proofs.lemmas.List.Folds.{list_any-append}
-use Rattle.sudo_grammar.specs.declared.kind.Atom.{Atom}
 use Rattle.sudo_match.specs.declared.request.Tags.{Tags}
 use Rattle.sudo_match.specs.Matching.{command_fits}
 use Rattle.sudo_policy.proofs.SurveyLemmas.{option_or-none}
@@ -13,9 +13,11 @@ use Rattle.sudo_verdict.specs.Last.{last_that}
 use Rattle.sudo_verdict.proofs.Lasts.{last_that-append}
 use Rattle.review_compare.specs.declared.ruling.Ruled.{Ruled}
 use Rattle.review_compare.specs.Agreement.{Ruling}
-use Rattle.review_compare.specs.Cells.{Decider, answered_if_any, rows_agree, ruling_by, verdict_among}
+use Rattle.review_compare.specs.Cells.{Decider, answered_if_any, lined_of, rows_agree, ruling_by, verdict_among}
 use Rattle.review_compare.specs.Compared.{said}
+use Rattle.review_compare.specs.Lines.{Choice, Lined, fits_where, is_met}
 use Rattle.review_compare.specs.Simply.{disjoint_simply}
+use Rattle.review_compare.specs.Witnesses.{RowsSaySame}
 use Rattle.review_compare.specs.Body.ChangedRows.{AreChanged, between, is_fitted, is_near}
 use Rattle.review_compare.specs.Body.Shown.{all_shown, ruling_of}
 use Rattle.review_compare.proofs.CellLemmas.{said-among, same-where-none}
@@ -58,49 +60,54 @@ last-kept f g keeps (x ∷ xs) = by (last-kept f g keeps xs) (f x) refl (g x) re
         ∙ sym (ap (λ v. option_or (last_that f xs) (cond v (Some x) None)) is ∙ option_or-none (last_that f xs))
     by rest true is false kept = let bad : true ≡ false = sym (keeps x is) ∙ kept in cc
 
-pub near-decide : (changed ds : List Decider) (c x : List ℕ) → is_fitted changed c x ≡ true →
-    verdict_among (filter (is_near changed) ds) c x ≡ verdict_among ds c x
-near-decide changed ds c x e =
-    ap answered_if_any (last-kept (λ d. command_fits d.atom c x) (is_near changed) (λ d fits. near-fits changed d c x e fits) ds)
+-- a row applies to nothing that its atom does not fit
+pub fits-alone : (met : Choice) (c x : List ℕ) (a : Lined) → fits_where met c x a ≡ true → command_fits a.atom c x ≡ true
+fits-alone met c x a applies = (and_parts (command_fits a.atom c x) (is_met met a) applies).0
+
+pub near-decide : (changed ds : List Decider) (met : Choice) (c x : List ℕ) → is_fitted changed c x ≡ true →
+    verdict_among met (filter (is_near changed) ds) c x ≡ verdict_among met ds c x
+near-decide changed ds met c x e =
+    ap answered_if_any (last-kept (λ d. fits_where met c x (lined_of d)) (is_near changed)
+    (λ d applies. near-fits changed d c x e (fits-alone met c x (lined_of d) applies)) ds)
 
 -- ---- Commands that no changed row fits
 
-none-last : (ds : List Decider) (c x : List ℕ) → is_fitted ds c x ≡ false →
-    last_that (λ r. command_fits r.atom c x) (map ruling_by ds) ≡ None
-none-last [] c x e = refl
-none-last (d ∷ ds) c x e =
+none-last : (ds : List Decider) (met : Choice) (c x : List ℕ) → is_fitted ds c x ≡ false →
+    last_that (λ r. fits_where met c x r.atom) (map ruling_by ds) ≡ None
+none-last [] met c x e = refl
+none-last (d ∷ ds) met c x e =
     let both = or-parts (command_fits d.atom c x) (is_fitted ds c x) e in
-    ap (λ o. option_or o (cond (command_fits d.atom c x) (Some (ruling_by d)) None)) (none-last ds c x both.1)
-    ∙ ap (λ v. cond v (Some (ruling_by d)) None) both.0
+    ap (λ o. option_or o (cond (fits_where met c x (lined_of d)) (Some (ruling_by d)) None)) (none-last ds met c x both.1)
+    ∙ ap (λ v. cond (v && is_met met (lined_of d)) (Some (ruling_by d)) None) both.0
 
 abbrev Rulings : Type 0
-Rulings = List (Ruling Atom (Option Tags))
+Rulings = List (Ruling Lined (Option Tags))
 
 -- where the rows in the middle do not fit, those before and behind them decide
-without-middle : (ps ms ss : List Decider) (c x : List ℕ) → is_fitted ms c x ≡ false →
-    last_that (λ r. command_fits r.atom c x) (map ruling_by (ps ++ (ms ++ ss)))
-    ≡ option_or (last_that (λ r. command_fits r.atom c x) (map ruling_by ss)) (last_that (λ r. command_fits r.atom c x) (map ruling_by ps))
-without-middle ps ms ss c x e =
-    let T : Rulings → Option (Ruling Atom (Option Tags)) = last_that (λ r. command_fits r.atom c x) in
+without-middle : (ps ms ss : List Decider) (met : Choice) (c x : List ℕ) → is_fitted ms c x ≡ false →
+    last_that (λ r. fits_where met c x r.atom) (map ruling_by (ps ++ (ms ++ ss)))
+    ≡ option_or (last_that (λ r. fits_where met c x r.atom) (map ruling_by ss)) (last_that (λ r. fits_where met c x r.atom) (map ruling_by ps))
+without-middle ps ms ss met c x e =
+    let T : Rulings → Option (Ruling Lined (Option Tags)) = last_that (λ r. fits_where met c x r.atom) in
     ap T (map-append ruling_by ps (ms ++ ss) ∙ ap (λ (rs : Rulings). map ruling_by ps ++ rs) (map-append ruling_by ms ss))
-    ∙ last_that-append (λ r. command_fits r.atom c x) (map ruling_by ps) (map ruling_by ms ++ map ruling_by ss)
+    ∙ last_that-append (λ r. fits_where met c x r.atom) (map ruling_by ps) (map ruling_by ms ++ map ruling_by ss)
     ∙ ap (λ o. option_or o (T (map ruling_by ps)))
-    (last_that-append (λ r. command_fits r.atom c x) (map ruling_by ms) (map ruling_by ss)
-    ∙ ap (λ o. option_or (T (map ruling_by ss)) o) (none-last ms c x e) ∙ option_or-none (T (map ruling_by ss)))
+    (last_that-append (λ r. fits_where met c x r.atom) (map ruling_by ms) (map ruling_by ss)
+    ∙ ap (λ o. option_or (T (map ruling_by ss)) o) (none-last ms met c x e) ∙ option_or-none (T (map ruling_by ss)))
 
 pub unfitted : (ps ms ss qs ns ts : List Decider) → map ruling_by ps ≡ map ruling_by qs → map ruling_by ss ≡ map ruling_by ts →
-    (c x : List ℕ) → is_fitted (ms ++ ns) c x ≡ false →
-    said (verdict_among (ps ++ (ms ++ ss)) c x) ≡ said (verdict_among (qs ++ (ns ++ ts)) c x)
-unfitted ps ms ss qs ns ts front back c x e =
-    let T : Rulings → Option (Ruling Atom (Option Tags)) = last_that (λ r. command_fits r.atom c x) in
+    (met : Choice) (c x : List ℕ) → is_fitted (ms ++ ns) c x ≡ false →
+    said (verdict_among met (ps ++ (ms ++ ss)) c x) ≡ said (verdict_among met (qs ++ (ns ++ ts)) c x)
+unfitted ps ms ss qs ns ts front back met c x e =
+    let T : Rulings → Option (Ruling Lined (Option Tags)) = last_that (λ r. fits_where met c x r.atom) in
     let both = or-parts (is_fitted ms c x) (is_fitted ns c x) (sym (list_any-append (λ d. command_fits d.atom c x) ms ns) ∙ e) in
-    said-among (ps ++ (ms ++ ss)) c x
+    said-among met (ps ++ (ms ++ ss)) c x
     ∙ ap (option_map (λ r. r.answer))
-    (without-middle ps ms ss c x both.0
+    (without-middle ps ms ss met c x both.0
     ∙ ap (λ (rs : Rulings). option_or (T (map ruling_by ss)) (T rs)) front
     ∙ ap (λ (rs : Rulings). option_or (T rs) (T (map ruling_by qs))) back
-    ∙ sym (without-middle qs ns ts c x both.1))
-    ∙ sym (said-among (qs ++ (ns ++ ts)) c x)
+    ∙ sym (without-middle qs ns ts met c x both.1))
+    ∙ sym (said-among met (qs ++ (ns ++ ts)) c x)
 
 -- ---- Parts of a list
 
@@ -131,7 +138,7 @@ rulings-shown rs ss e = map-twice ruling_by _ rs ∙ e ∙ sym (map-twice ruling
 pub behind : (rs : List Ruled) (front : ℕ) → take (length rs - front) (drop front rs) ≡ drop front rs
 behind rs front = take_all (length rs - front) (drop front rs) (omega (arith, length-drop front rs))
 
-abbrev tail_rulings : ℕ → List Ruled → List (Ruling Atom (Option Tags))
+abbrev tail_rulings : ℕ → List Ruled → Rulings
 tail_rulings back rs = map ruling_of (drop (length rs - back) rs)
 
 pub tails-same : (old new : List Ruled) (front back : ℕ) →
@@ -149,34 +156,37 @@ pub are-changed : (old new changed : List Ruled) (front back : ℕ) → front + 
     near_old ≡ filter (is_near (all_shown changed)) (all_shown old) → near_new ≡ filter (is_near (all_shown changed)) (all_shown new) →
     AreChanged (all_shown old) (all_shown new) (all_shown changed) near_old near_new
 are-changed old new changed front back within also first last is near_old near_new own its = record {
-  others = λ c x e. alike c x e;
-  old = λ c x e. ap (λ (ds : List Decider). verdict_among ds c x) own ∙ near-decide (all_shown changed) (all_shown old) c x e;
-  new = λ c x e. ap (λ (ds : List Decider). verdict_among ds c x) its ∙ near-decide (all_shown changed) (all_shown new) c x e;
+  others = λ met c x e. alike met c x e;
+  old = λ met c x e.
+      ap (λ (ds : List Decider). verdict_among met ds c x) own ∙ near-decide (all_shown changed) (all_shown old) met c x e;
+  new = λ met c x e.
+      ap (λ (ds : List Decider). verdict_among met ds c x) its ∙ near-decide (all_shown changed) (all_shown new) met c x e;
 }
   where
     all : all_shown changed ≡ all_shown (between front back old) ++ all_shown (between front back new)
     all = ap all_shown is ∙ map-append _ (between front back old) (between front back new)
 
-    alike : (c x : List ℕ) → is_fitted (all_shown changed) c x ≡ false →
-        said (verdict_among (all_shown old) c x) ≡ said (verdict_among (all_shown new) c x)
-    alike c x e =
-        ap (λ (ds : List Decider). said (verdict_among ds c x)) (shown-parts old front back within)
+    alike : (met : Choice) (c x : List ℕ) → is_fitted (all_shown changed) c x ≡ false →
+        said (verdict_among met (all_shown old) c x) ≡ said (verdict_among met (all_shown new) c x)
+    alike met c x e =
+        ap (λ (ds : List Decider). said (verdict_among met ds c x)) (shown-parts old front back within)
         ∙ unfitted (all_shown (take front old)) (all_shown (between front back old))
         (all_shown (drop (length (drop front old) - back) (drop front old))) (all_shown (take front new))
         (all_shown (between front back new)) (all_shown (drop (length (drop front new) - back) (drop front new)))
         (rulings-shown (take front old) (take front new) first)
         (rulings-shown (drop (length (drop front old) - back) (drop front old))
         (drop (length (drop front new) - back) (drop front new)) last)
-        c x (sym (ap (λ (ds : List Decider). is_fitted ds c x) all) ∙ e)
-        ∙ sym (ap (λ (ds : List Decider). said (verdict_among ds c x)) (shown-parts new front back also))
+        met c x (sym (ap (λ (ds : List Decider). is_fitted ds c x) all) ∙ e)
+        ∙ sym (ap (λ (ds : List Decider). said (verdict_among met ds c x)) (shown-parts new front back also))
 
 -- ---- Near rows that agree
 
 pub near-same : (ds es changed near_ds near_es : List Decider) (b : Bool) → AreChanged ds es changed near_ds near_es →
-    b ≡ not (rows_agree near_ds near_es) → b ≡ false → (c x : List ℕ) → said (verdict_among ds c x) ≡ said (verdict_among es c x)
-near-same ds es changed near_ds near_es b changes tested none c x = by (is_fitted changed c x) refl
+    b ≡ not (rows_agree near_ds near_es) → b ≡ false → RowsSaySame ds es
+near-same ds es changed near_ds near_es b changes tested none met c x = by (is_fitted changed c x) refl
   where
-    by : (f : Bool) → is_fitted changed c x ≡ f → said (verdict_among ds c x) ≡ said (verdict_among es c x)
-    by false e = changes.others c x e
+    by : (f : Bool) → is_fitted changed c x ≡ f → said (verdict_among met ds c x) ≡ said (verdict_among met es c x)
+    by false e = changes.others met c x e
     by true e =
-        sym (ap said (changes.old c x e)) ∙ same-where-none near_ds near_es b tested none c x ∙ ap said (changes.new c x e)
+        sym (ap said (changes.old met c x e)) ∙ same-where-none near_ds near_es b tested none met c x
+        ∙ ap said (changes.new met c x e)

@@ -14,13 +14,10 @@ use Rattle.sudo_match.specs.declared.people.Person.{Person}
 use Rattle.sudo_verdict.specs.Values.{user_allowed, host_allowed}
 use Rattle.sudo_verdict.specs.RunasForms.{runas_allows}
 use Rattle.sudo_verdict.specs.Questions.{Question}
-use Rattle.sudo_verdict.specs.Grants.{Grant, grants}
-use Rattle.review_grants.specs.Rows.{is_row}
-use Rattle.review_roots.proofs.ListSteps.{take-more, flat-one, flat-range, index-there, all-there, filter-constant, filter-mapped}
-use Rattle.review_roots.proofs.ListSteps.{filter-twice, map-twice}
+use Rattle.review_roots.proofs.ListSteps.{take-more, flat-one, flat-range, index-there, all-there, filter-constant, map-twice}
 use Rattle.review_compare.specs.declared.block.Block.{Block}
-use Rattle.review_compare.specs.Cells.{Decider, decider_of, deciders}
-use Rattle.review_compare.specs.Blocks.{Wide, wide_of, block_decider, block_wide, block_wides, block_stands, standing, AreBlocks}
+use Rattle.review_compare.specs.Cells.{Decider, Wide, deciders, wide_stands}
+use Rattle.review_compare.specs.Blocks.{block_decider, block_wide, block_wides, block_stands, standing, AreBlocks}
 use Rattle.review_compare.specs.Body.Chosen.{user_if, host_if, runas_if, deciders_if, deciders_of, standing_if, user_at, host_at, runas_at}
 use Rattle.review_compare.specs.Body.Chosen.{listed_at, deciders_at, standing_at, standing_among}
 
@@ -149,9 +146,6 @@ all-stand p (b ∷ bs) q =
 
 -- ---- The rows for the target
 
-abbrev wide_stands : Policy → Question → Wide → Bool
-wide_stands p q w = (user_allowed p w.users q.user && host_allowed p w.hosts q.host) && runas_allows p q w.runas
-
 abbrev answers : Wide → Decider
 answers w = w.decider
 
@@ -176,11 +170,6 @@ blocks-stand p q (b ∷ bs) =
 pub blocks-decide : (p : Policy) (q : Question) (bs : List Block) → AreBlocks p bs → flat_map (standing p q) bs ≡ deciders p q
 blocks-decide p q bs are =
     sym (blocks-stand p q bs) ∙ ap (λ (ws : List Wide). map answers (filter (wide_stands p q) ws)) are
-    ∙ ap (map answers) (filter-mapped (wide_stands p q) wide_of (grants p))
-    ∙ map-twice answers wide_of (filter (λ g. wide_stands p q (wide_of g)) (grants p))
-    ∙ ap (map decider_of)
-    (sym (filter-twice (λ (g : Grant). runas_allows p q g.runas) (is_row p q.user q.host) (λ g. wide_stands p q (wide_of g)) (λ g. refl)
-    (grants p)))
 
 -- ---- The block at an index
 

@@ -11,11 +11,12 @@ use Rattle.sudo_match.specs.Pattern.{fits, parts, path_chars}
 use Rattle.review_compare.specs.declared.changed.Changed.{Changed}
 use Rattle.review_compare.specs.declared.fitting.Fitting.{Fitting}
 use Rattle.review_compare.specs.declared.witness.Witness.{Witness}
-use Rattle.review_compare.specs.Cells.{Decider, answered_if_any, verdict_among}
+use Rattle.review_compare.specs.Cells.{Decider, answered_if_any, lined_of, verdict_among}
+use Rattle.review_compare.specs.Lines.{Choice, fits_where}
 use Rattle.review_compare.specs.Body.ChangedRows.{is_fitted}
 use Rattle.review_compare.specs.Body.Fitting.{AreFitting, fits_path, row_fits_path}
 use Rattle.review_compare.specs.Body.Shown.{IsShownWitness, all_shown}
-use Rattle.review_compare.proofs.ChangedLemmas.{last-kept}
+use Rattle.review_compare.proofs.ChangedLemmas.{fits-alone, last-kept}
 
 -- what fits a command has a path that fits it
 path-fits : (a : Atom) (c x : List ℕ) → command_fits a c x ≡ true → fits_path a c ≡ true
@@ -25,9 +26,11 @@ path-fits (atom.Command path args) c x e =
     (and_parts (fits (parts (path_chars path)) c Not) (arguments_fit (arguments_slash path) args x) e).0
 path-fits _ c x e = let bad : false ≡ true = e in cc
 
-paths-decide : (ds : List Decider) (c x : List ℕ) → verdict_among (filter (row_fits_path c) ds) c x ≡ verdict_among ds c x
-paths-decide ds c x =
-    ap answered_if_any (last-kept (λ d. command_fits d.atom c x) (row_fits_path c) (λ d fits. path-fits d.atom c x fits) ds)
+paths-decide : (ds : List Decider) (met : Choice) (c x : List ℕ) →
+    verdict_among met (filter (row_fits_path c) ds) c x ≡ verdict_among met ds c x
+paths-decide ds met c x =
+    ap answered_if_any (last-kept (λ d. fits_where met c x (lined_of d)) (row_fits_path c)
+    (λ d applies. path-fits d.atom c x (fits-alone met c x (lined_of d) applies)) ds)
 
 -- what a kept row fits, one of all rows fits
 kept-fits : (g : Decider → Bool) (ds : List Decider) (c x : List ℕ) → is_fitted (filter g ds) c x ≡ true → is_fitted ds c x ≡ true
@@ -56,22 +59,24 @@ pub fitting-witness : (k : Changed) (f : Fitting) (w : Witness) (c x : List ℕ)
     is_fitted (all_shown k.rows.items) c x ≡ true → IsShownWitness f.old.items f.new.items w →
     IsShownWitness k.all_old.now k.all_new.now w
 fitting-witness k f w c x are command arguments fitted is = record {
-  old = is.old ∙ whole_old w.command w.arguments command arguments;
-  new = is.new ∙ whole_new w.command w.arguments command arguments;
+  old = λ met. is.old met ∙ whole_old met w.command w.arguments command arguments;
+  new = λ met. is.new met ∙ whole_new met w.command w.arguments command arguments;
   answer = is.answer;
 }
   where
-    whole_old : (d y : List ℕ) → d ≡ c → y ≡ x → verdict_among (all_shown f.old.items) d y ≡ verdict_among (all_shown k.all_old.now) d y
-    whole_old d y same also =
+    whole_old : (met : Choice) (d y : List ℕ) → d ≡ c → y ≡ x →
+        verdict_among met (all_shown f.old.items) d y ≡ verdict_among met (all_shown k.all_old.now) d y
+    whole_old met d y same also =
         rw (same, also)
-        (ap (λ (ds : List Decider). verdict_among ds c x) are.old ∙ paths-decide (all_shown k.old.items) c x
-        ∙ (k.are_changed).old c x fitted)
+        (ap (λ (ds : List Decider). verdict_among met ds c x) are.old ∙ paths-decide (all_shown k.old.items) met c x
+        ∙ (k.are_changed).old met c x fitted)
 
-    whole_new : (d y : List ℕ) → d ≡ c → y ≡ x → verdict_among (all_shown f.new.items) d y ≡ verdict_among (all_shown k.all_new.now) d y
-    whole_new d y same also =
+    whole_new : (met : Choice) (d y : List ℕ) → d ≡ c → y ≡ x →
+        verdict_among met (all_shown f.new.items) d y ≡ verdict_among met (all_shown k.all_new.now) d y
+    whole_new met d y same also =
         rw (same, also)
-        (ap (λ (ds : List Decider). verdict_among ds c x) are.new ∙ paths-decide (all_shown k.new.items) c x
-        ∙ (k.are_changed).new c x fitted)
+        (ap (λ (ds : List Decider). verdict_among met ds c x) are.new ∙ paths-decide (all_shown k.new.items) met c x
+        ∙ (k.are_changed).new met c x fitted)
 
 -- what holds of a witness by two clauses
 pub by-both : {E : Type 0} (P Q R : Witness → Type 0) → ((w : Witness) → P w → Q w → R w) → (r : Result (Option Witness) E) →

@@ -10,6 +10,7 @@ pub mod ChosenLemmas
 pub mod MergeLemmas
 pub mod DifferenceLemmas
 pub mod RowLemmas
+pub mod LineLemmas
 pub mod TextLemmas
 pub mod UnchangedLemmas
 pub mod ClassLemmas

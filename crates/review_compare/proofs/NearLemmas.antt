@@ -7,7 +7,6 @@ use Rattle.std.specs.List.{list_any, range_with_len}
 use Rattle.std.specs.Option.{option_or}
 use Rattle.std.proofs.lemmas.List.Elements.{All-weaker, filter-append}
 use Rattle.std.proofs.lemmas.List.Folds.{list_any-append}
-use Rattle.sudo_grammar.specs.declared.kind.Atom.{Atom}
 use Rattle.sudo_grammar.specs.declared.policy.Policy.{Policy}
 use Rattle.sudo_match.specs.declared.request.Tags.{Tags}
 use Rattle.sudo_match.specs.declared.request.Verdict.{Verdict}
@@ -24,58 +23,64 @@ use Rattle.review_compare.specs.declared.pair.Pair.{Pair}
 use Rattle.review_compare.specs.declared.witness.Witness.{Witness}
 use Rattle.review_compare.specs.Agreement.{Ruling}
 use Rattle.review_compare.specs.Blocks.{AreBlocks, block_stands}
-use Rattle.review_compare.specs.Cells.{Decider, answer_between, answered_if_any, change_of, deciders, ruling_by, same_said, verdict_among}
+use Rattle.review_compare.specs.Cells.{Decider, answer_between, answered_if_any, change_of, deciders, lined_of, ruling_by, same_said}
+use Rattle.review_compare.specs.Cells.{verdict_among}
 use Rattle.review_compare.specs.Compared.{said, same_answer, same_choice, same_choices}
+use Rattle.review_compare.specs.Lines.{Choice, Lined, all_met, fits_where}
 use Rattle.review_compare.specs.Witnesses.{IsCompared, IsWitness}
 use Rattle.review_compare.specs.Body.ChangedRows.{AreChanged, is_fitted, is_near}
 use Rattle.review_compare.specs.Body.Chosen.{chosen, deciders_at, deciders_if, deciders_of, standing_if}
 use Rattle.review_compare.specs.Body.AskClasses.{changed_by, kept_new, kept_old}
 use Rattle.review_compare.specs.Body.Near.{AreParts, HaveParts, changed_rows, has_near, if_near, middle, near_at, near_deciders, near_of}
 use Rattle.review_compare.specs.Body.Unchanged.{AreCommon}
-use Rattle.review_compare.proofs.ChangedLemmas.{near-decide, near-fits, or-parts, unfitted}
+use Rattle.review_compare.proofs.ChangedLemmas.{fits-alone, near-decide, near-fits, or-parts, unfitted}
 use Rattle.review_compare.proofs.ChosenLemmas.{all-stand, blocks-decide}
 use Rattle.review_compare.proofs.UnchangedLemmas.{joined, mapped-flat, pairwise}
 
 -- ---- Rows of which one is near
 
 -- where none is near, none fits a command that a changed row fits
-none-fits : (changed ds : List Decider) (c x : List ℕ) → is_fitted changed c x ≡ true → has_near changed ds ≡ false →
-    last_that (λ d. command_fits d.atom c x) ds ≡ None
-none-fits changed [] c x e none = refl
-none-fits changed (d ∷ ds) c x e none =
+none-fits : (changed ds : List Decider) (met : Choice) (c x : List ℕ) → is_fitted changed c x ≡ true → has_near changed ds ≡ false →
+    last_that (λ d. fits_where met c x (lined_of d)) ds ≡ None
+none-fits changed [] met c x e none = refl
+none-fits changed (d ∷ ds) met c x e none =
     let both = or-parts (is_near changed d) (has_near changed ds) none in
-    ap (λ o. option_or o (cond (command_fits d.atom c x) (Some d) None)) (none-fits changed ds c x e both.1)
-    ∙ by (command_fits d.atom c x) refl both.0
+    ap (λ o. option_or o (cond (fits_where met c x (lined_of d)) (Some d) None)) (none-fits changed ds met c x e both.1)
+    ∙ by (fits_where met c x (lined_of d)) refl both.0
   where
-    by : (f : Bool) → command_fits d.atom c x ≡ f → is_near changed d ≡ false → cond (command_fits d.atom c x) (Some d) None ≡ None
+    by : (f : Bool) → fits_where met c x (lined_of d) ≡ f → is_near changed d ≡ false →
+        cond (fits_where met c x (lined_of d)) (Some d) None ≡ None
     by false is apart = ap (λ f. cond f (Some d) None) is
-    by true is apart = let bad : true ≡ false = sym (near-fits changed d c x e is) ∙ apart in cc
+    by true is apart =
+        let bad : true ≡ false = sym (near-fits changed d c x e (fits-alone met c x (lined_of d) is)) ∙ apart in cc
 
-last-near : (changed ds : List Decider) (c x : List ℕ) → is_fitted changed c x ≡ true →
-    last_that (λ d. command_fits d.atom c x) (if_near changed ds) ≡ last_that (λ d. command_fits d.atom c x) ds
-last-near changed ds c x e = by (has_near changed ds) refl
+last-near : (changed ds : List Decider) (met : Choice) (c x : List ℕ) → is_fitted changed c x ≡ true →
+    last_that (λ d. fits_where met c x (lined_of d)) (if_near changed ds) ≡ last_that (λ d. fits_where met c x (lined_of d)) ds
+last-near changed ds met c x e = by (has_near changed ds) refl
   where
     by : (b : Bool) → has_near changed ds ≡ b →
-        last_that (λ d. command_fits d.atom c x) (cond b ds []) ≡ last_that (λ d. command_fits d.atom c x) ds
+        last_that (λ d. fits_where met c x (lined_of d)) (cond b ds []) ≡ last_that (λ d. fits_where met c x (lined_of d)) ds
     by true is = refl
-    by false is = sym (none-fits changed ds c x e is)
+    by false is = sym (none-fits changed ds met c x e is)
 
 -- the near rows decide a command that a changed row fits
-near-last : (changed : List Decider) (f : ℕ → List Decider) (is : List ℕ) (c x : List ℕ) → is_fitted changed c x ≡ true →
-    last_that (λ d. command_fits d.atom c x) (flat_map (λ i. if_near changed (f i)) is)
-    ≡ last_that (λ d. command_fits d.atom c x) (flat_map f is)
-near-last changed f [] c x e = refl
-near-last changed f (i ∷ is) c x e =
-    let T : List Decider → Option Decider = last_that (λ d. command_fits d.atom c x) in
-    last_that-append (λ d. command_fits d.atom c x) (if_near changed (f i)) (flat_map (λ i. if_near changed (f i)) is)
-    ∙ ap (λ o. option_or o (T (if_near changed (f i)))) (near-last changed f is c x e)
-    ∙ ap (λ o. option_or (T (flat_map f is)) o) (last-near changed (f i) c x e)
-    ∙ sym (last_that-append (λ d. command_fits d.atom c x) (f i) (flat_map f is))
+near-last : (changed : List Decider) (f : ℕ → List Decider) (is : List ℕ) (met : Choice) (c x : List ℕ) → is_fitted changed c x ≡ true →
+    last_that (λ d. fits_where met c x (lined_of d)) (flat_map (λ i. if_near changed (f i)) is)
+    ≡ last_that (λ d. fits_where met c x (lined_of d)) (flat_map f is)
+near-last changed f [] met c x e = refl
+near-last changed f (i ∷ is) met c x e =
+    let T : List Decider → Option Decider = last_that (λ d. fits_where met c x (lined_of d)) in
+    last_that-append (λ d. fits_where met c x (lined_of d)) (if_near changed (f i)) (flat_map (λ i. if_near changed (f i)) is)
+    ∙ ap (λ o. option_or o (T (if_near changed (f i)))) (near-last changed f is met c x e)
+    ∙ ap (λ o. option_or (T (flat_map f is)) o) (last-near changed (f i) met c x e)
+    ∙ sym (last_that-append (λ d. fits_where met c x (lined_of d)) (f i) (flat_map f is))
 
 -- ---- Rulings of which one is near
 
-abbrev near_ruling : List Decider → Ruling Atom (Option Tags) → Bool
-near_ruling changed r = is_near changed (record { place = record { file = 0; line = 0 }; answer = r.answer; atom = r.atom })
+abbrev near_ruling : List Decider → Ruling Lined (Option Tags) → Bool
+near_ruling changed r =
+    is_near changed
+    (record { place = record { file = 0; line = 0 }; answer = r.answer; before = r.atom.before; atom = r.atom.atom })
 
 any-ruled : (changed ds : List Decider) → has_near changed ds ≡ list_any (near_ruling changed) (map ruling_by ds)
 any-ruled changed [] = refl
@@ -97,7 +102,7 @@ filter-ruled : (changed ds : List Decider) → map ruling_by (near_of changed ds
 filter-ruled changed [] = refl
 filter-ruled changed (d ∷ ds) =
     by (is_near changed d)
-    ∙ ap (λ (rs : List (Ruling Atom (Option Tags))). cond (is_near changed d) (ruling_by d ∷ rs) rs) (filter-ruled changed ds)
+    ∙ ap (λ (rs : List (Ruling Lined (Option Tags))). cond (is_near changed d) (ruling_by d ∷ rs) rs) (filter-ruled changed ds)
   where
     by : (b : Bool) → map ruling_by (cond b (d ∷ near_of changed ds) (near_of changed ds))
         ≡ cond b (ruling_by d ∷ map ruling_by (near_of changed ds)) (map ruling_by (near_of changed ds))
@@ -184,11 +189,11 @@ AlikeOutside f g m n c =
     × ((i : ℕ) → i < c.back → map ruling_by (f (m - i - 1)) ≡ map ruling_by (g (n - i - 1)))
 
 alike-but : (f g : ℕ → List Decider) (m n : ℕ) (k : Common) → k.front + k.back ≤ m → k.front + k.back ≤ n → AlikeOutside f g m n k →
-    (c x : List ℕ) → ((i : ℕ) → k.front ≤ i → i + k.back < m → is_fitted (f i) c x ≡ false) →
+    (met : Choice) (c x : List ℕ) → ((i : ℕ) → k.front ≤ i → i + k.back < m → is_fitted (f i) c x ≡ false) →
     ((i : ℕ) → k.front ≤ i → i + k.back < n → is_fitted (g i) c x ≡ false) →
-    said (verdict_among (flat_map f (range_with_len 0 m)) c x) ≡ said (verdict_among (flat_map g (range_with_len 0 n)) c x)
-alike-but f g m n k within also alike c x none either =
-    ap (λ (ds : List Decider). said (verdict_among ds c x)) (thirds f m k.front k.back within)
+    said (verdict_among met (flat_map f (range_with_len 0 m)) c x) ≡ said (verdict_among met (flat_map g (range_with_len 0 n)) c x)
+alike-but f g m n k within also alike met c x none either =
+    ap (λ (ds : List Decider). said (verdict_among met ds c x)) (thirds f m k.front k.back within)
     ∙ unfitted (flat_map f (range_with_len 0 k.front)) (flat_map f (range_with_len k.front (m - k.back - k.front)))
     (flat_map f (range_with_len (m - k.back) k.back)) (flat_map g (range_with_len 0 k.front))
     (flat_map g (range_with_len k.front (n - k.back - k.front))) (flat_map g (range_with_len (n - k.back) k.back))
@@ -198,13 +203,13 @@ alike-but f g m n k within also alike c x none either =
     (mapped-flat f (range_with_len (m - k.back) k.back)
     ∙ pairwise (λ i. map ruling_by (f i)) (λ i. map ruling_by (g i)) (m - k.back) (n - k.back) k.back back
     ∙ sym (mapped-flat g (range_with_len (n - k.back) k.back)))
-    c x
+    met c x
     (list_any-append (λ d. command_fits d.atom c x) (flat_map f (range_with_len k.front (m - k.back - k.front)))
     (flat_map g (range_with_len k.front (n - k.back - k.front)))
     ∙ ap (λ b. b || is_fitted (flat_map g (range_with_len k.front (n - k.back - k.front))) c x)
     (none-fitted f k.front (m - k.back - k.front) c x (λ i low high. none i low (omega (arith, high, within))))
     ∙ none-fitted g k.front (n - k.back - k.front) c x (λ i low high. either i low (omega (arith, high, also))))
-    ∙ sym (ap (λ (ds : List Decider). said (verdict_among ds c x)) (thirds g n k.front k.back also))
+    ∙ sym (ap (λ (ds : List Decider). said (verdict_among met ds c x)) (thirds g n k.front k.back also))
   where
     front : (i : ℕ) → i < k.front → map ruling_by (f (0 + i)) ≡ map ruling_by (g (0 + i))
     front i less =
@@ -350,19 +355,19 @@ module _ (p r : Policy) (bs cs : List Block) (k : Common) (common : AreCommon p 
   near-of-all : AreBlocks p bs → AreBlocks r cs → AreChanged (deciders p q) (deciders r q) rows_changed
       (near_deciders p bs (near_at rows_changed bs) q) (near_deciders r cs (near_at rows_changed cs) q)
   near-of-all are also = record {
-    others = λ c x e.
-        sym (ap (λ (ds : List Decider). said (verdict_among ds c x)) (all-own are))
-        ∙ alike-but own its (length bs) (length cs) k common.within_old common.within_new alike-outside c x (own-unfitted c x e)
+    others = λ met c x e.
+        sym (ap (λ (ds : List Decider). said (verdict_among met ds c x)) (all-own are))
+        ∙ alike-but own its (length bs) (length cs) k common.within_old common.within_new alike-outside met c x (own-unfitted c x e)
         (its-unfitted c x e)
-        ∙ ap (λ (ds : List Decider). said (verdict_among ds c x)) (all-its also);
-    old = λ c x e.
-        ap (λ (ds : List Decider). verdict_among ds c x) near-own
-        ∙ ap answered_if_any (near-last rows_changed own (range_with_len 0 (length bs)) c x e)
-        ∙ ap (λ (ds : List Decider). verdict_among ds c x) (all-own are);
-    new = λ c x e.
-        ap (λ (ds : List Decider). verdict_among ds c x) near-its
-        ∙ ap answered_if_any (near-last rows_changed its (range_with_len 0 (length cs)) c x e)
-        ∙ ap (λ (ds : List Decider). verdict_among ds c x) (all-its also);
+        ∙ ap (λ (ds : List Decider). said (verdict_among met ds c x)) (all-its also);
+    old = λ met c x e.
+        ap (λ (ds : List Decider). verdict_among met ds c x) near-own
+        ∙ ap answered_if_any (near-last rows_changed own (range_with_len 0 (length bs)) met c x e)
+        ∙ ap (λ (ds : List Decider). verdict_among met ds c x) (all-own are);
+    new = λ met c x e.
+        ap (λ (ds : List Decider). verdict_among met ds c x) near-its
+        ∙ ap answered_if_any (near-last rows_changed its (range_with_len 0 (length cs)) met c x e)
+        ∙ ap (λ (ds : List Decider). verdict_among met ds c x) (all-its also);
   }
 
   abbrev kept_own : ℕ → List Decider
@@ -393,16 +398,16 @@ module _ (p r : Policy) (bs cs : List Block) (k : Common) (common : AreCommon p 
       (near_of rows_changed (near_deciders p bs (near_at rows_changed bs) q))
       (near_of rows_changed (near_deciders r cs (near_at rows_changed cs) q))
   kept-of-kept = record {
-    others = λ c x e.
-        ap (λ (ds : List Decider). said (verdict_among ds c x)) all-kept-own
-        ∙ alike-but kept_own kept_its (length bs) (length cs) k common.within_old common.within_new kept-outside c x
+    others = λ met c x e.
+        ap (λ (ds : List Decider). said (verdict_among met ds c x)) all-kept-own
+        ∙ alike-but kept_own kept_its (length bs) (length cs) k common.within_old common.within_new kept-outside met c x
         (λ i low high. filter-unfitted rows_changed (if_near rows_changed (own i)) c x
         (if-near-unfitted rows_changed (own i) c x (own-unfitted c x e i low high)))
         (λ i low high. filter-unfitted rows_changed (if_near rows_changed (its i)) c x
         (if-near-unfitted rows_changed (its i) c x (its-unfitted c x e i low high)))
-        ∙ sym (ap (λ (ds : List Decider). said (verdict_among ds c x)) all-kept-its);
-    old = λ c x e. refl;
-    new = λ c x e. refl;
+        ∙ sym (ap (λ (ds : List Decider). said (verdict_among met ds c x)) all-kept-its);
+    old = λ met c x e. refl;
+    new = λ met c x e. refl;
   }
 
 abbrev pub near_old : Pair → Question → List Decider
@@ -441,8 +446,8 @@ pair-kept-all p q =
     let all = pair-all p q in
     record {
       others = all.others;
-      old = λ c x e. near-decide (changed_by p) (near_old p q) c x e ∙ all.old c x e;
-      new = λ c x e. near-decide (changed_by p) (near_new p q) c x e ∙ all.new c x e;
+      old = λ met c x e. near-decide (changed_by p) (near_old p q) met c x e ∙ all.old met c x e;
+      new = λ met c x e. near-decide (changed_by p) (near_new p q) met c x e ∙ all.new met c x e;
     }
 
 -- ---- The outcome for some rows, and for others with the same near rows
@@ -475,26 +480,27 @@ witness-moved ds es fs gs changed near_ds near_es one other w is = by (is_fitted
   where
     by : (b : Bool) → is_fitted changed w.command w.arguments ≡ b → IsWitness fs gs w
     by true e = record {
-      old = is.old ∙ sym (one.old w.command w.arguments e) ∙ other.old w.command w.arguments e;
-      new = is.new ∙ sym (one.new w.command w.arguments e) ∙ other.new w.command w.arguments e;
+      old = λ met. is.old met ∙ sym (one.old met w.command w.arguments e) ∙ other.old met w.command w.arguments e;
+      new = λ met. is.new met ∙ sym (one.new met w.command w.arguments e) ∙ other.new met w.command w.arguments e;
       answer = is.answer;
     }
     by false e =
         let same : said w.old ≡ said w.new =
-        ap said is.old ∙ one.others w.command w.arguments e ∙ sym (ap said is.new) in
+        ap said (is.old all_met) ∙ one.others all_met w.command w.arguments e ∙ sym (ap said (is.new all_met)) in
         let none : answer_between w.old w.new ≡ None = unchanged w.old w.new same in
         let bad : Some w.answer ≡ None = sym is.answer ∙ none in
         cc
 
 pub compared-moved : (ds es fs gs changed near_ds near_es : List Decider) → AreChanged ds es changed near_ds near_es →
     AreChanged fs gs changed near_ds near_es → (f : Compared) → IsCompared ds es f → IsCompared fs gs f
-compared-moved ds es fs gs changed near_ds near_es one other compared.Same same = λ c x. by c x (is_fitted changed c x) refl
+compared-moved ds es fs gs changed near_ds near_es one other compared.Same same = λ met c x. by met c x (is_fitted changed c x) refl
   where
-    by : (c x : List ℕ) → (b : Bool) → is_fitted changed c x ≡ b → said (verdict_among fs c x) ≡ said (verdict_among gs c x)
-    by c x false e = other.others c x e
-    by c x true e =
-        sym (ap said (other.old c x e)) ∙ ap said (one.old c x e) ∙ same c x ∙ sym (ap said (one.new c x e))
-        ∙ ap said (other.new c x e)
+    by : (met : Choice) (c x : List ℕ) → (b : Bool) → is_fitted changed c x ≡ b →
+        said (verdict_among met fs c x) ≡ said (verdict_among met gs c x)
+    by met c x false e = other.others met c x e
+    by met c x true e =
+        sym (ap said (other.old met c x e)) ∙ ap said (one.old met c x e) ∙ same met c x ∙ sym (ap said (one.new met c x e))
+        ∙ ap said (other.new met c x e)
 compared-moved ds es fs gs changed near_ds near_es one other (compared.Differs ws) is = (
   is.0,
   All-weaker (IsWitness ds es) (IsWitness fs gs)

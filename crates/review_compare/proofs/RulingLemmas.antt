@@ -8,8 +8,9 @@ use Rattle.sudo_grammar.specs.declared.kind.Atom.{Atom}
 use Rattle.sudo_match.specs.declared.request.Tags.{Tags}
 use Rattle.review_compare.specs.Agreement.{Way, answer_alike, is_impossible, ways, ways_by_one}
 use Rattle.review_compare.specs.Compared.{same_answer}
-use Rattle.review_compare.specs.Cells.{Decider, ruling_by, simple_tests, rows_agree}
-use Rattle.review_compare.specs.Simply.{covers_simply, disjoint_simply}
+use Rattle.review_compare.specs.Cells.{Decider, covers_always, ruling_by, simple_tests, rows_agree}
+use Rattle.review_compare.specs.Lines.{Lined}
+use Rattle.review_compare.specs.Simply.{disjoint_simply}
 use Rattle.review_compare.specs.Body.Shown.{is_covered_by, is_covered_by_either, pair_agrees, none_agrees, each_agrees, one_agrees}
 use Rattle.review_compare.specs.Body.Shown.{all_agree, pairs_agree}
 
@@ -27,17 +28,17 @@ or-false true = refl
 or-false false = refl
 
 covered : (ds es : List Decider) (a : Atom) →
-    list_any (λ k. covers_simply k.atom a) (map ruling_by ds ++ map ruling_by es) ≡ is_covered_by_either ds es a
+    list_any (λ k. covers_always k.atom a) (map ruling_by ds ++ map ruling_by es) ≡ is_covered_by_either ds es a
 covered ds es a =
-    list_any-append (λ k. covers_simply k.atom a) (map ruling_by ds) (map ruling_by es)
-    ∙ ap (λ b. b || list_any (λ k. covers_simply k.atom a) (map ruling_by es)) (list_any-map (λ k. covers_simply k.atom a) ruling_by ds)
-    ∙ ap (λ b. is_covered_by ds a || b) (list_any-map (λ k. covers_simply k.atom a) ruling_by es)
+    list_any-append (λ k. covers_always k.atom a) (map ruling_by ds) (map ruling_by es)
+    ∙ ap (λ b. b || list_any (λ k. covers_always k.atom a) (map ruling_by es)) (list_any-map (λ k. covers_always k.atom a) ruling_by ds)
+    ∙ ap (λ b. is_covered_by ds a || b) (list_any-map (λ k. covers_always k.atom a) ruling_by es)
 
 -- the ways of the others beside none and beside one
-abbrev none_test : List Decider → Way Atom (Option Tags) → Bool
+abbrev none_test : List Decider → Way Lined (Option Tags) → Bool
 none_test ds w = answer_alike simple_tests None w.by || is_impossible simple_tests (record { by = None; later = map ruling_by ds }) w
 
-abbrev one_test : Decider → List Decider → Way Atom (Option Tags) → Bool
+abbrev one_test : Decider → List Decider → Way Lined (Option Tags) → Bool
 one_test d later w =
     answer_alike simple_tests (Some (ruling_by d)) w.by
     || is_impossible simple_tests (record { by = Some (ruling_by d); later = map ruling_by later }) w
@@ -46,14 +47,14 @@ none-ways : (ds es : List Decider) → list_all (none_test ds) (ways_by_one (map
 none-ways ds [] = refl
 none-ways ds (e ∷ es) =
     ap (λ b. b && list_all (none_test ds) (ways_by_one (map ruling_by es)))
-    (or-false (list_any (λ k. covers_simply k.atom e.atom) (map ruling_by ds ++ map ruling_by es)) ∙ covered ds es e.atom)
+    (or-false (list_any (λ k. covers_always k.atom e.atom) (map ruling_by ds ++ map ruling_by es)) ∙ covered ds es e.atom)
     ∙ ap (λ b. is_covered_by_either ds es e.atom && b) (none-ways ds es)
 
 one-ways : (d : Decider) (later es : List Decider) → list_all (one_test d later) (ways_by_one (map ruling_by es)) ≡ each_agrees d later es
 one-ways d later [] = refl
 one-ways d later (e ∷ es) =
     ap (λ b. (same_answer d.answer e.answer
-    || ((b || list_any (λ k. covers_simply k.atom e.atom) (map ruling_by later ++ map ruling_by es)) || disjoint_simply d.atom e.atom))
+    || ((b || list_any (λ k. covers_always k.atom e.atom) (map ruling_by later ++ map ruling_by es)) || disjoint_simply d.atom e.atom))
     && list_all (one_test d later) (ways_by_one (map ruling_by es))) (covered later es d.atom)
     ∙ ap (λ b. (same_answer d.answer e.answer
     || ((is_covered_by_either later es d.atom || b) || disjoint_simply d.atom e.atom))
@@ -63,8 +64,8 @@ one-ways d later (e ∷ es) =
 whole-way : (d : Decider) (later es : List Decider) → list_all (one_test d later) (ways (map ruling_by es)) ≡ one_agrees d later es
 whole-way d later es =
     ap (λ b. b && list_all (one_test d later) (ways_by_one (map ruling_by es)))
-    (or-false (list_any (λ k. covers_simply k.atom d.atom) (map ruling_by later ++ map ruling_by es) || false)
-    ∙ or-false (list_any (λ k. covers_simply k.atom d.atom) (map ruling_by later ++ map ruling_by es)) ∙ covered later es d.atom)
+    (or-false (list_any (λ k. covers_always k.atom d.atom) (map ruling_by later ++ map ruling_by es) || false)
+    ∙ or-false (list_any (λ k. covers_always k.atom d.atom) (map ruling_by later ++ map ruling_by es)) ∙ covered later es d.atom)
     ∙ ap (λ b. is_covered_by_either later es d.atom && b) (one-ways d later es)
 
 all-ways : (ds es : List Decider) →

@@ -28,7 +28,6 @@ use Rattle.review_compare.specs.Body.Classes.{AreRightIn, IsRightIn}
 use Rattle.review_compare.specs.Body.Merged.{Absorbs, AddsFound, AreMerged, AreOrdered, IsOnAmong, IsOrdered, IsRowOf, is_among}
 use Rattle.review_compare.specs.Body.Progress.{IsSpot, Progress, question_of}
 use Rattle.review_compare.proofs.AskLemmas.{asked-cases, asked-first, asked-last, classes-cases}
-use Rattle.review_compare.proofs.CellLemmas.{rows_say_same}
 use Rattle.review_compare.proofs.ClassLemmas.{asked-here, or-false, same-self, single}
 use Rattle.review_compare.proofs.DifferenceLemmas.{all-added, nothing-added, numbers-same, went-on}
 use Rattle.review_compare.proofs.NearLemmas.{compared-moved, pair-kept, pair-kept-all}
@@ -218,7 +217,7 @@ class-found p user hosts asked rows new f is adds = record {
 found-same : (p : Pair) (o : Option Question) → FoundIf p.old.checked.now p.new.checked.now o compared.Same →
     SameIf p.old.checked.now p.new.checked.now o
 found-same p None is = tt
-found-same p (Some q) is = rows_say_same p.old.checked.now p.new.checked.now q is
+found-same p (Some q) is = is
 
 pub class-same : (p : Pair) (user : ℕ) (hosts : List ℕ) (asked : Ask → Type 0) (rows : List Row) (f : Compared) →
     IsRightIn p user hosts asked f → f ≡ compared.Same → Progress p rows rows (IsOnAmong user hosts asked)

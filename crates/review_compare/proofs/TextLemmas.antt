@@ -1,10 +1,25 @@
 -- Names with a comma and a space between them, and the records of rows.
 use Rattle.std.proofs.Common.{◌≡◌, ◌∙◌, ℕ, Bool, true, false, cond, List, [], ◌∷◌, ◌++◌, ap, flat_map, length, map, refl, sym}
-use Rattle.std.specs.Prelude.{◌==◌, codes, drop}
+use Rattle.std.specs.Prelude.{◌==◌, Option, None, Some, codes, drop, filter}
 use Rattle.std.proofs.lemmas.Bool.{eqb-true}
 use Rattle.review_grants.specs.GrantRows.{joined}
-use Rattle.review_compare.specs.Table.{name_at, names_text}
-use Rattle.review_compare.specs.Body.Lines.{separated}
+use Rattle.csv.specs.Writing.{default_writer, fields_text}
+use Rattle.sudo_text.specs.declared.line.Place.{Place}
+use Rattle.sudo_grammar.specs.declared.policy.Policy.{Policy}
+use Rattle.sudo_match.specs.declared.people.Group.{Group}
+use Rattle.sudo_match.specs.KnownRows.{KnownRows}
+use Rattle.review_texts.specs.Notes.{notes}
+use Rattle.review_grants.specs.declared.marks.Marks.{Marks}
+use Rattle.review_grants.specs.Depends.{depends_text, has_mark, joined_marks, marks_at}
+use Rattle.review_compare.specs.declared.compared.Compared.{Compared}
+use Rattle.review_compare.specs.declared.compared.Compared.TheVariants as compared
+use Rattle.review_compare.specs.declared.compared.Decider.{Decider}
+use Rattle.review_compare.specs.declared.row.Row.{Row}
+use Rattle.review_compare.specs.declared.text.Names.{Names}
+use Rattle.review_compare.specs.declared.witness.Witness.{Witness}
+use Rattle.review_compare.specs.Table.{Source, found_lines, name_at, names_text, row_head, row_lines, row_marks, row_texts, row_verdict}
+use Rattle.review_compare.specs.Table.{rows_depend, source_of, verdicts_text, witness_line}
+use Rattle.review_compare.specs.Body.Lines.{AreNames, head_of, lines_of, separated}
 
 pub differ : (a b : ℕ) → (a ≡ b → ⊥) → (a == b) ≡ false
 differ a b ne = go (a == b) refl
@@ -23,3 +38,56 @@ pub names-joined : (names : List (List ℕ)) (numbers : List ℕ) → (length nu
 names-joined names numbers e =
     ap (drop 2) (flat-mapped names numbers)
     ∙ sym (ap (λ b. cond b (codes "ALL") (joined (map (name_at names) numbers))) e)
+
+-- the head of a row by names
+head-same : (names : Names) (d : KnownRows) (groups : List Group) → AreNames d groups names → (row : Row) →
+    head_of names row ≡ row_head d groups row
+head-same names d groups are row = rw (are.users, are.hosts, are.groups_too) refl
+
+-- ---- What lines depend on
+
+marks-same : (s t : Source) → ((at : Place) → s.marks at ≡ t.marks at) → (o : Option Decider) → row_marks s o ≡ row_marks t o
+marks-same s t same None = refl
+marks-same s t same (Some d) = same d.place
+
+depend-same : (s t u v : Source) → ((at : Place) → s.marks at ≡ u.marks at) → ((at : Place) → t.marks at ≡ v.marks at) →
+    (old new : Option Decider) → rows_depend s t old new ≡ rows_depend u v old new
+depend-same s t u v own other old new =
+    ap (λ (m : Marks). depends_text (filter (has_mark (joined_marks m (row_marks t new))) notes)) (marks-same s u own old)
+    ∙ ap (λ (m : Marks). depends_text (filter (has_mark (joined_marks (row_marks u old) m)) notes)) (marks-same t v other new)
+
+found-same : (files more : List (List ℕ)) (f g h k : Place → Marks) → ((at : Place) → f at ≡ h at) → ((at : Place) → g at ≡ k at) →
+    (head : List ℕ) (found : Compared) →
+    found_lines (record { files = files; marks = f }) (record { files = more; marks = g }) head found
+    ≡ found_lines (record { files = files; marks = h }) (record { files = more; marks = k }) head found
+found-same files more f g h k own other head compared.Same = refl
+found-same files more f g h k own other head (compared.Differs ws) = by ws
+  where
+    by : (ws : List Witness) →
+        flat_map (witness_line (record { files = files; marks = f }) (record { files = more; marks = g }) head) ws
+        ≡ flat_map (witness_line (record { files = files; marks = h }) (record { files = more; marks = k }) head) ws
+    by [] = refl
+    by (w ∷ ws) =
+        ap (λ (xs : List ℕ). witness_line (record { files = files; marks = f }) (record { files = more; marks = g }) head w ++ xs)
+        (by ws)
+found-same files more f g h k own other head (compared.May old new) =
+    let s : Source = record { files = files; marks = f } in
+    let t : Source = record { files = more; marks = g } in
+    let u : Source = record { files = files; marks = h } in
+    let v : Source = record { files = more; marks = k } in
+    ap (λ (depends : List ℕ). head ++ (fields_text default_writer (codes "may" ∷ drop 2 (row_texts old ++ row_texts new) ∷ [] ∷ [])
+    ++ verdicts_text s t (row_verdict old) (row_verdict new) depends)) (depend-same s t u v own other old new)
+
+-- where the same paths and marks are given, the lines of the rows are those of the table
+pub sources-same : (s t : Source) (names : Names) (p r : Policy) (d : KnownRows) (groups : List Group) → AreNames d groups names →
+    s.files ≡ p.files → t.files ≡ r.files → ((at : Place) → s.marks at ≡ marks_at p at) → ((at : Place) → t.marks at ≡ marks_at r at) →
+    (rows : List Row) → flat_map (lines_of s t names) rows ≡ flat_map (row_lines (source_of p) (source_of r) d groups) rows
+sources-same s t names p r d groups are own other marked also [] = refl
+sources-same s t names p r d groups are own other marked also (row ∷ rows) =
+    ap (λ (xs : List ℕ). lines_of s t names row ++ xs) (sources-same s t names p r d groups are own other marked also rows)
+    ∙ ap (λ (xs : List ℕ). xs ++ flat_map (row_lines (source_of p) (source_of r) d groups) rows)
+    (ap (λ (files : List (List ℕ)). found_lines (record { files = files; marks = s.marks }) t (head_of names row) row.found) own
+    ∙ ap (λ (files : List (List ℕ)). found_lines (record { files = p.files; marks = s.marks })
+    (record { files = files; marks = t.marks }) (head_of names row) row.found) other
+    ∙ found-same p.files r.files s.marks t.marks (marks_at p) (marks_at r) marked also (head_of names row) row.found
+    ∙ ap (λ (head : List ℕ). found_lines (source_of p) (source_of r) head row.found) (head-same names d groups are row))

@@ -28,10 +28,11 @@ use Rattle.review_compare.specs.declared.common.Common.{Common}
 use Rattle.review_compare.specs.Agreement.{Ruling}
 use Rattle.review_compare.specs.Blocks.{AreBlocks, block_decider, block_stands, standing}
 use Rattle.review_compare.specs.Cells.{Decider, SaySame, deciders, ruling_by}
+use Rattle.review_compare.specs.Lines.{Lined}
 use Rattle.review_compare.specs.Body.Chosen.{deciders_at, deciders_if, deciders_of, depends_on_user, host_at, runas_at, runas_if}
 use Rattle.review_compare.specs.Body.Chosen.{standing_at, standing_if, user_at}
 use Rattle.review_compare.specs.Body.Unchanged.{AreAlikeAt, AreCommon, ArePartsAlike, IsQuiet, StandAlike, rulings_at, written_if}
-use Rattle.review_compare.proofs.CellLemmas.{rows_say_same, rulings-say-same}
+use Rattle.review_compare.proofs.CellLemmas.{rulings-say-same}
 use Rattle.review_compare.proofs.ChosenLemmas.{all-stand, blocks-decide, no-host, no-user}
 
 -- ---- Lists written out
@@ -124,7 +125,7 @@ pub alike-at : (p : Policy) (bs : List Block) (r : Policy) (cs : List Block) (i 
 alike-at p bs r cs i j b c at on stand same q =
     ap (λ (o : Option Block). map ruling_by (standing_if p q o)) at ∙ standing-cond p q b
     ∙ ap (λ s. cond s (map ruling_by (deciders_of b)) []) (stand q)
-    ∙ ap (λ (rs : List (Ruling Atom (Option Tags))). cond (block_stands r q c) rs [])
+    ∙ ap (λ (rs : List (Ruling Lined (Option Tags))). cond (block_stands r q c) rs [])
     (sym (ap (λ (o : Option Block). map ruling_by (deciders_if o)) at) ∙ same
     ∙ ap (λ (o : Option Block). map ruling_by (deciders_if o)) on)
     ∙ sym (standing-cond r q c) ∙ sym (ap (λ (o : Option Block). map ruling_by (standing_if r q o)) on)
@@ -180,7 +181,7 @@ pub mapped-flat : (f : ℕ → List Decider) (is : List ℕ) → map ruling_by (
 mapped-flat f [] = refl
 mapped-flat f (i ∷ is) =
     map-append ruling_by (f i) (flat_map f is)
-    ∙ ap (λ (rs : List (Ruling Atom (Option Tags))). map ruling_by (f i) ++ rs) (mapped-flat f is)
+    ∙ ap (λ (rs : List (Ruling Lined (Option Tags))). map ruling_by (f i) ++ rs) (mapped-flat f is)
 
 rulings-all : (p : Policy) (bs : List Block) (q : Question) → AreBlocks p bs →
     map ruling_by (deciders p q) ≡ flat_map (rulings_at p bs q) (range_with_len 0 (length bs))
@@ -195,17 +196,17 @@ none-ruled p bs q i e = ap (map ruling_by) e
 pub quiet-same : (p r : Policy) (bs cs : List Block) (c : Common) (q : Question) → AreBlocks p bs → AreBlocks r cs →
     AreCommon p bs r cs c → IsQuiet p bs c q → IsQuiet r cs c q → SaySame p r q
 quiet-same p r bs cs c q are also common own other =
-    let F : ℕ → List (Ruling Atom (Option Tags)) = rulings_at p bs q in
-    let G : ℕ → List (Ruling Atom (Option Tags)) = rulings_at r cs q in
-    rows_say_same p r q (rulings-say-same (deciders p q) (deciders r q)
+    let F : ℕ → List (Ruling Lined (Option Tags)) = rulings_at p bs q in
+    let G : ℕ → List (Ruling Lined (Option Tags)) = rulings_at r cs q in
+    rulings-say-same (deciders p q) (deciders r q)
     (rulings-all p bs q are
     ∙ ends F (length bs) c.front c.back common.within_old (λ i low high. none-ruled p bs q i (own i low high))
-    ∙ ap (λ (xs : List (Ruling Atom (Option Tags))). xs ++ flat_map F (range_with_len (length bs - c.back) c.back))
+    ∙ ap (λ (xs : List (Ruling Lined (Option Tags))). xs ++ flat_map F (range_with_len (length bs - c.back) c.back))
     (pairwise F G 0 0 c.front front)
-    ∙ ap (λ (xs : List (Ruling Atom (Option Tags))). flat_map G (range_with_len 0 c.front) ++ xs)
+    ∙ ap (λ (xs : List (Ruling Lined (Option Tags))). flat_map G (range_with_len 0 c.front) ++ xs)
     (pairwise F G (length bs - c.back) (length cs - c.back) c.back back)
     ∙ sym (ends G (length cs) c.front c.back common.within_new (λ i low high. none-ruled r cs q i (other i low high)))
-    ∙ sym (rulings-all r cs q also)))
+    ∙ sym (rulings-all r cs q also))
   where
     front : (i : ℕ) → i < c.front → rulings_at p bs q (0 + i) ≡ rulings_at r cs q (0 + i)
     front i less =

@@ -1,31 +1,19 @@
 -- The grants of a policy as rows with whom they are for, and the blocks in which a program has them. sudoers(5), "User
 -- Specification".
-use Rattle.std.specs.Prelude.{◌≡◌, Bool, ◌&&◌, if◌then◌else◌, List, [], map, flat_map, Option, option_copied}
+use Rattle.std.specs.Prelude.{◌≡◌, Bool, ◌&&◌, if◌then◌else◌, List, [], map, flat_map, option_copied}
 use Rattle.sudo_grammar.specs.declared.kind.Kind.TheVariants as kind
-use Rattle.sudo_grammar.specs.declared.kind.Member.{Member}
 use Rattle.sudo_grammar.specs.declared.policy.Policy.{Policy}
-use Rattle.sudo_grammar.specs.declared.policy.Runas.{Runas}
 use Rattle.sudo_policy.specs.Resolving.{resolves, runas_resolves}
 use Rattle.sudo_verdict.specs.Values.{user_allowed, host_allowed}
 use Rattle.sudo_verdict.specs.RunasForms.{runas_allows}
 use Rattle.sudo_verdict.specs.Questions.{Question}
-use Rattle.sudo_verdict.specs.Grants.{Grant, grants}
+use Rattle.sudo_verdict.specs.Grants.{grants}
 use Rattle.review_compare.specs.declared.block.Block.{Block}
 use Rattle.review_compare.specs.declared.block.BlockRow.{BlockRow}
-use Rattle.review_compare.specs.Cells.{Decider, decider_of}
-
--- a grant: whom it is for, where, as whom, and what it answers
-pub record Wide : Type 0 where
-  pub users : List Member
-  pub hosts : List Member
-  pub runas : Option Runas
-  pub decider : Decider
-
-abbrev pub wide_of : Grant → Wide
-wide_of g = record { users = g.users; hosts = g.hosts; runas = g.runas; decider = decider_of g }
+use Rattle.review_compare.specs.Cells.{Decider, Wide, policy_rows, wide_of}
 
 abbrev pub block_decider : Block → BlockRow → Decider
-block_decider b r = record { place = b.place; answer = r.answer; atom = r.shape.atom }
+block_decider b r = record { place = b.place; answer = r.answer; before = r.before.now; atom = r.shape.atom }
 
 abbrev pub block_wide : Block → BlockRow → Wide
 block_wide b r = record { users = b.users.now; hosts = b.hosts.now; runas = option_copied b.runas; decider = block_decider b r }
@@ -34,9 +22,13 @@ block_wide b r = record { users = b.users.now; hosts = b.hosts.now; runas = opti
 abbrev pub block_wides : Block → List Wide
 block_wides b = map (block_wide b) b.rows.items
 
--- the blocks are the grants of the policy
+-- the blocks are the grants of the policy, as far as they are without what stands before them
+abbrev pub AreGrants : Policy → List Block → Type 0
+AreGrants p blocks = flat_map block_wides blocks ≡ map wide_of (grants p)
+
+-- the blocks are the rows of the policy
 abbrev pub AreBlocks : Policy → List Block → Type 0
-AreBlocks p blocks = flat_map block_wides blocks ≡ map wide_of (grants p)
+AreBlocks p blocks = flat_map block_wides blocks ≡ policy_rows p
 
 -- the lists of a block resolve
 abbrev pub block_resolves : Policy → Block → Bool

@@ -5,6 +5,7 @@ pub mod Chosen
 pub mod Merged
 pub mod Progress
 pub mod Lines
+pub mod LineAtoms
 pub mod Unchanged
 pub mod Comparisons
 pub mod Classes

@@ -4,6 +4,7 @@ pub mod Compared
 pub mod Simply
 pub mod Table
 pub mod Body
+pub mod Lines
 pub mod Cells
 pub mod Names
 pub mod Witnesses

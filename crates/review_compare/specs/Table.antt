@@ -1,15 +1,20 @@
 -- The table of the differences of two policies, as CSV.
-use Rattle.std.specs.Prelude.{ℕ, ◌==◌, if◌then◌else◌, List, [], ◌∷◌, ◌++◌, codes, drop, flat_map, length, map, slice_get, Option, Some}
+use Rattle.std.specs.Prelude.{ℕ, ◌==◌, if◌then◌else◌, List, [], ◌∷◌, ◌++◌, codes, drop, filter, flat_map, length, map, slice_get, Option, Some}
 use Rattle.std.specs.Prelude.{None}
 use Rattle.csv.specs.Writing.{default_writer, field_text, fields_text}
 use Rattle.audit_files.specs.Report.{verdict_place, verdict_tags, verdict_word}
+use Rattle.sudo_text.specs.declared.line.Place.{Place}
 use Rattle.sudo_match.specs.declared.people.Group.{Group}
 use Rattle.sudo_match.specs.declared.request.Verdict.{Verdict}
 use Rattle.sudo_match.specs.declared.request.Verdict.TheVariants.{NoMatch}
 use Rattle.sudo_match.specs.KnownRows.{KnownRows}
 use Rattle.sudo_parser.specs.Texts.{atom_text, user_text}
+use Rattle.sudo_grammar.specs.declared.policy.Policy.{Policy}
+use Rattle.review_grants.specs.declared.marks.Marks.{Marks}
+use Rattle.review_grants.specs.Depends.{depends_text, has_mark, joined_marks, marks_at, unmarked}
 use Rattle.review_grants.specs.GrantRows.{joined}
 use Rattle.review_texts.specs.Masks.{as_written}
+use Rattle.review_texts.specs.Notes.{notes}
 use Rattle.review_compare.specs.declared.compared.Compared.{Compared}
 use Rattle.review_compare.specs.declared.compared.Compared.TheVariants as compared
 use Rattle.review_compare.specs.declared.compared.Decider.{Decider}
@@ -56,7 +61,7 @@ asked_text names numbers = asked_if names (numbers_of numbers)
 -- the first record: the names of the columns
 abbrev pub table_header : List ℕ
 table_header =
-    codes "users,hosts,runas_user,runas_group,answer,command,arguments,old,old_place,old_tags,new,new_place,new_tags"
+    codes "users,hosts,runas_user,runas_group,answer,command,arguments,old,old_place,old_tags,new,new_place,new_tags,depends"
 
 -- whose cells, where and as whom: the fields with which each record of a row begins
 abbrev pub row_head : KnownRows → List Group → Row → List ℕ
@@ -65,20 +70,28 @@ row_head d groups r =
     ++ fields_text default_writer (names_text (host_names d) r.hosts
     ∷ asked_text (user_names d) r.targets ∷ asked_text (group_names groups) r.groups ∷ [])
 
+-- a policy as the table shows it: the paths of its files, and which notes its lines have
+pub record Source : Type 0 where
+  pub files : List (List ℕ)
+  pub marks : Place → Marks
+
+abbrev pub source_of : Policy → Source
+source_of p = record { files = p.files; marks = marks_at p }
+
 -- the word of a verdict, its place, and its tags
 abbrev pub verdict_fields : List (List ℕ) → Verdict → List (List ℕ)
 verdict_fields files v = verdict_word v ∷ verdict_place files v ∷ verdict_tags v ∷ []
 
--- both verdicts, and the end of the record
-abbrev pub verdicts_text : List (List ℕ) → List (List ℕ) → Verdict → Verdict → List ℕ
-verdicts_text old_files new_files old new =
-    fields_text default_writer (verdict_fields old_files old) ++ (fields_text default_writer (verdict_fields new_files new) ++ 10 ∷ [])
+-- both verdicts, what they depend on, and the end of the record
+abbrev pub verdicts_text : Source → Source → Verdict → Verdict → List ℕ → List ℕ
+verdicts_text s t old new depends =
+    fields_text default_writer (verdict_fields s.files old)
+    ++ (fields_text default_writer (verdict_fields t.files new) ++ (fields_text default_writer (depends ∷ []) ++ 10 ∷ []))
 
--- the record of a witness
-abbrev pub witness_line : List (List ℕ) → List (List ℕ) → List ℕ → Witness → List ℕ
-witness_line old_files new_files head w =
-    head ++ (fields_text default_writer (answer_name w.answer ∷ w.command ∷ w.arguments ∷ []) ++ verdicts_text old_files new_files w.old
-    w.new)
+-- the record of a witness, whose verdicts depend on nothing
+abbrev pub witness_line : Source → Source → List ℕ → Witness → List ℕ
+witness_line s t head w =
+    head ++ (fields_text default_writer (answer_name w.answer ∷ w.command ∷ w.arguments ∷ []) ++ verdicts_text s t w.old w.new [])
 
 abbrev pub row_verdict : Option Decider → Verdict
 row_verdict None = NoMatch
@@ -88,21 +101,31 @@ abbrev pub row_texts : Option Decider → List ℕ
 row_texts None = []
 row_texts (Some d) = 44 ∷ 32 ∷ as_written (atom_text d.atom)
 
--- the record of rows that may answer a command otherwise: their commands, with a comma and a space between them, and what each answers
-abbrev pub may_line : List (List ℕ) → List (List ℕ) → List ℕ → Option Decider → Option Decider → List ℕ
-may_line old_files new_files head old new =
-    head ++ (fields_text default_writer (codes "may" ∷ drop 2 (row_texts old ++ row_texts new) ∷ [] ∷ [])
-    ++ verdicts_text old_files new_files (row_verdict old) (row_verdict new))
+-- which notes the line of a row has
+abbrev pub row_marks : Source → Option Decider → Marks
+row_marks s None = unmarked
+row_marks s (Some d) = s.marks d.place
 
-abbrev pub found_lines : List (List ℕ) → List (List ℕ) → List ℕ → Compared → List ℕ
-found_lines old_files new_files head compared.Same = []
-found_lines old_files new_files head (compared.Differs ws) = flat_map (witness_line old_files new_files head) ws
-found_lines old_files new_files head (compared.May old new) = may_line old_files new_files head old new
+-- the names of the notes of the lines of both rows
+abbrev pub rows_depend : Source → Source → Option Decider → Option Decider → List ℕ
+rows_depend s t old new = depends_text (filter (has_mark (joined_marks (row_marks s old) (row_marks t new))) notes)
+
+-- the record of rows that may answer a command otherwise: their commands, with a comma and a space between them, what each answers,
+-- and what their lines depend on
+abbrev pub may_line : Source → Source → List ℕ → Option Decider → Option Decider → List ℕ
+may_line s t head old new =
+    head ++ (fields_text default_writer (codes "may" ∷ drop 2 (row_texts old ++ row_texts new) ∷ [] ∷ [])
+    ++ verdicts_text s t (row_verdict old) (row_verdict new) (rows_depend s t old new))
+
+abbrev pub found_lines : Source → Source → List ℕ → Compared → List ℕ
+found_lines s t head compared.Same = []
+found_lines s t head (compared.Differs ws) = flat_map (witness_line s t head) ws
+found_lines s t head (compared.May old new) = may_line s t head old new
 
 -- the records of a row
-abbrev pub row_lines : List (List ℕ) → List (List ℕ) → KnownRows → List Group → Row → List ℕ
-row_lines old_files new_files d groups r = found_lines old_files new_files (row_head d groups r) r.found
+abbrev pub row_lines : Source → Source → KnownRows → List Group → Row → List ℕ
+row_lines s t d groups row = found_lines s t (row_head d groups row) row.found
 
 -- the header, and the records of the rows, in their order
-abbrev pub table_text : List (List ℕ) → List (List ℕ) → KnownRows → List Group → List Row → List ℕ
-table_text old_files new_files d groups rows = table_header ++ 10 ∷ flat_map (row_lines old_files new_files d groups) rows
+abbrev pub table_text : Source → Source → KnownRows → List Group → List Row → List ℕ
+table_text old new d groups rows = table_header ++ 10 ∷ flat_map (row_lines old new d groups) rows

@@ -5,16 +5,18 @@ use Rattle.review_compare.specs.declared.compared.Compared.TheVariants as compar
 use Rattle.review_compare.specs.declared.witness.Witness.{Witness}
 use Rattle.review_compare.specs.Cells.{Decider, answer_between, verdict_among}
 use Rattle.review_compare.specs.Compared.{said}
+use Rattle.review_compare.specs.Lines.{Choice}
 
--- a command, with both verdicts on it, which do not say the same, and what the change does to it
+-- a command, with both verdicts on it, whatever is met of what is noted; these do not say the same; and what the change does to it
 pub record IsWitness (ds es : List Decider) (w : Witness) : Type 0 where
-  pub old : w.old ≡ verdict_among ds w.command w.arguments
-  pub new : w.new ≡ verdict_among es w.command w.arguments
+  pub old : (met : Choice) → w.old ≡ verdict_among met ds w.command w.arguments
+  pub new : (met : Choice) → w.new ≡ verdict_among met es w.command w.arguments
   pub answer : answer_between w.old w.new ≡ Some w.answer
 
--- the last rows that fit say the same to every command, with any arguments
+-- whatever is met, the last rows that apply say the same to every command, with any arguments
 abbrev pub RowsSaySame : List Decider → List Decider → Type 0
-RowsSaySame ds es = (command arguments : List ℕ) → said (verdict_among ds command arguments) ≡ said (verdict_among es command arguments)
+RowsSaySame ds es = (met : Choice) (command arguments : List ℕ) →
+    said (verdict_among met ds command arguments) ≡ said (verdict_among met es command arguments)
 
 -- same: to every command; or there are witnesses; otherwise nothing is known
 abbrev pub IsCompared : List Decider → List Decider → Compared → Type 0

@@ -152,6 +152,25 @@ pub(crate) fn is_same_atom(atom: &Atom, other: &Atom) -> bool
     }
 }
 
+/// Whether two lists of atoms are the same.
+pub(crate) fn are_same_atoms(atoms: &[Atom], others: &[Atom]) -> bool
+    ensures { result ≡ true → atoms.now ≡ others.now }
+{
+    let mut own = atoms;
+    let mut left = others;
+    while let [atom, rest @ ..] = own {
+        let [other, more @ ..] = left else {
+            return false;
+        };
+        if !is_same_atom(atom, other) {
+            return false;
+        }
+        own = rest;
+        left = more;
+    }
+    left.is_empty()
+}
+
 fn is_same_decider(decider: &Decider, other: &Decider) -> bool
     ensures { result ≡ true → decider.now ≡ other.now }
 {

@@ -12,7 +12,8 @@ ghost use Rattle.sudo_verdict.specs.Grants.{entry_grants, section_grants};
 ghost use Rattle.sudo_verdict.specs.Body.Resolved.{body_resolves};
 ghost use Rattle.sudo_grammar.specs.declared.policy.CommandSpec.{CommandSpec as TheSpec};
 ghost use Rattle.sudo_grammar.specs.declared.tag.Tag.{Tag as TheTag};
-ghost use Rattle.review_compare.specs.Blocks.{AreBlocks, block_resolves, block_wides, wide_of};
+ghost use Rattle.review_compare.specs.Blocks.{AreGrants, block_resolves, block_wides};
+ghost use Rattle.review_compare.specs.Cells.{wide_of};
 ghost use Rattle.review_compare.specs.Body.Heads.{IsInForce, head_resolves, row_answered, signed_answered, signed_wide};
 
 use crate::shape::Shape;
@@ -26,10 +27,12 @@ use sudo_policy::{
 use sudo_text::Place;
 use sudo_verdict::tags_before_end;
 
-/// An atom of a command, with what it answers: leave with these tags, or a refusal.
+/// An atom of a command, with what it answers: leave with these tags, or a refusal; and with what stands before it in its line,
+/// where a note is among that.
 #[derive(Drop)]
-pub(crate) struct BlockRow {
+pub(crate) struct BlockRow<'a> {
     pub(crate) answer: Option<Tags>,
+    pub(crate) before: &'a [Atom],
     pub(crate) shape: Shape,
 }
 
@@ -41,7 +44,7 @@ pub(crate) struct Block<'a> {
     pub(crate) users: &'a [Member],
     pub(crate) hosts: &'a [Member],
     pub(crate) runas: Option<&'a Runas>,
-    pub(crate) rows: Vec<BlockRow>,
+    pub(crate) rows: Vec<BlockRow<'a>>,
 }
 
 // The place and the users of a rule, and the hosts of a section.
@@ -115,8 +118,8 @@ fn tags_given(tags: Tags, all: bool) -> Tags
     }
 }
 
-// Returns an atom with what it answers.
-fn row_of(alloc: Global, tags: Tags, signed: Signed) -> Result<BlockRow, AllocError>
+// Returns an atom with what it answers, and with nothing before it.
+fn row_of<'a>(alloc: Global, tags: Tags, signed: Signed) -> Result<BlockRow<'a>, AllocError>
     ensures { IfOk result (λ row. row_answered row ≡ signed_answered tags signed) }
 {
     let Signed { negated, atom } = signed;
@@ -126,11 +129,19 @@ fn row_of(alloc: Global, tags: Tags, signed: Signed) -> Result<BlockRow, AllocEr
         Some(tags_given(tags, is_all(&atom)))
     };
     let shape = Shape::of(alloc, atom)?;
-    Ok(BlockRow { answer, shape })
+    Ok(BlockRow {
+        answer,
+        before: &[],
+        shape,
+    })
 }
 
 // Returns the atoms of a list written out, with what each answers.
-fn rows_of_atoms(alloc: Global, tags: Tags, atoms: Vec<Signed>) -> Result<Vec<BlockRow>, AllocError>
+fn rows_of_atoms<'a>(
+    alloc: Global,
+    tags: Tags,
+    atoms: Vec<Signed>,
+) -> Result<Vec<BlockRow<'a>>, AllocError>
     ensures { IfOk result (λ rows. map row_answered rows.items
         ≡ map (signed_answered tags) atoms.items) }
 {
@@ -142,12 +153,12 @@ fn rows_of_atoms(alloc: Global, tags: Tags, atoms: Vec<Signed>) -> Result<Vec<Bl
 }
 
 // Returns the command written out, with what each atom answers.
-fn rows_of(
+fn rows_of<'a>(
     alloc: Global,
     checked: &Checked,
     tags: Tags,
     command: &Member,
-) -> Result<Vec<BlockRow>, AllocError>
+) -> Result<Vec<BlockRow<'a>>, AllocError>
     requires { IsTrue (resolves kind.Cmnd checked.now (command.now ∷ [])) }
     ensures { IfOk result (λ rows. map row_answered rows.items ≡ map (signed_answered tags)
         (written_form kind.Cmnd checked.now (command.now ∷ []))) }
@@ -275,12 +286,12 @@ fn push_entry<'a>(
     }
 }
 
-/// Returns the grants of a policy, in blocks. Returns `AllocError` if allocation fails.
+/// Returns the grants of a policy, in blocks, without what stands before them in their lines. Returns `AllocError` if allocation fails.
 pub(crate) fn blocks_of<'a>(
     alloc: Global,
     checked: &'a Checked,
 ) -> Result<Vec<Block<'a>>, AllocError>
-    ensures rows { IfOk result (λ blocks. AreBlocks checked.now blocks.items) }
+    ensures rows { IfOk result (λ blocks. AreGrants checked.now blocks.items) }
     ensures resolve { IfOk result (λ blocks. IsTrue (list_all (block_resolves checked.now)
         blocks.items)) }
 {

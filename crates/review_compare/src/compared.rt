@@ -4,10 +4,10 @@ ghost use Rattle.review_compare.specs.Body.Shown as body;
 ghost use Rattle.review_compare.specs.Cells.{Decider as TheDecider};
 ghost use Rattle.review_compare.specs.Witnesses as witnesses;
 
-use crate::alike::is_same_atom;
+use crate::alike::{are_same_atoms, is_same_atom};
 use crate::answer::is_same_answer;
 use crate::changed::Changed;
-use crate::ruling::{Overlap, Ruled, first_overlap};
+use crate::ruling::{Overlap, Ruled, first_overlap, is_unnoted};
 use crate::trials::witnesses;
 use crate::witness::Witness;
 use std::alloc::{AllocError, Global};
@@ -22,7 +22,8 @@ pub enum Compared {
     Same,
     /// Different answers to these commands: at most one command for each kind of change.
     Differs(Seq<Witness>),
-    /// Not settled: a command that these two rows match may have different answers.
+    /// Not settled: a command that these two rows match may have different answers. If what is noted may decide, something is noted
+    /// before one of them.
     May {
         /// The row of the old policy.
         old: Option<Decider>,
@@ -64,17 +65,57 @@ fn may(overlap: Overlap<'_>) -> Result<Compared, AllocError>
     })
 }
 
+// Whether something is noted before the row, if there is one.
+fn is_noted(row: Option<Ruled<'_>>) -> bool {
+    match row {
+        None => false,
+        Some(row) => !is_unnoted(row.before),
+    }
+}
+
+// Returns the last row before which something is noted, if there is one.
+fn last_noted<'a>(rows: &[Ruled<'a>]) -> Option<Ruled<'a>> {
+    let mut found = None;
+    for row in rows {
+        if !is_unnoted(row.before) {
+            found = Some(*row);
+        }
+    }
+    found
+}
+
+// Returns the rows that may answer otherwise: with one before which something is noted, if there is any near the change.
+fn with_noted<'a>(overlap: Overlap<'a>, old: &[Ruled<'a>], new: &[Ruled<'a>]) -> Overlap<'a> {
+    if is_noted(overlap.old) || is_noted(overlap.new) {
+        return overlap;
+    }
+    match (last_noted(old), last_noted(new)) {
+        (_, Some(row)) => Overlap {
+            old: overlap.old,
+            new: Some(row),
+        },
+        (Some(row), None) => Overlap {
+            old: Some(row),
+            new: overlap.new,
+        },
+        (None, None) => overlap,
+    }
+}
+
 // The most rows of a policy that are compared pair by pair.
 const MOST_ROWS: usize = 1000;
 
-/// Whether two rows answer the same to the same commands.
+/// Whether two rows answer the same to the same commands, and the same stands before both where something is noted.
 pub(crate) fn is_same_ruling(row: &Ruled<'_>, other: &Ruled<'_>) -> bool
     ensures { result ≡ true → body.ruling_of row.now ≡ body.ruling_of other.now }
 {
     if !is_same_answer(&row.answer, &other.answer) {
         return false;
     }
-    is_same_atom(&row.shape.atom, &other.shape.atom)
+    if !is_same_atom(&row.shape.atom, &other.shape.atom) {
+        return false;
+    }
+    are_same_atoms(row.before, other.before)
 }
 
 /// Whether the rows answer the same, one by one.
@@ -98,10 +139,11 @@ fn compared_changed(alloc: Global, changed: &Changed<'_, '_>) -> Result<Compared
         (body.all_shown changed.now.all_new.now)) }
 {
     if changed.old.len() > MOST_ROWS || changed.new.len() > MOST_ROWS {
-        return may(Overlap {
+        let last = Overlap {
             old: changed.old.last().copied(),
             new: changed.new.last().copied(),
-        });
+        };
+        return may(with_noted(last, &changed.old, &changed.new));
     }
     let found = witnesses(alloc, changed)?;
     if !found.is_empty() {
@@ -109,13 +151,14 @@ fn compared_changed(alloc: Global, changed: &Changed<'_, '_>) -> Result<Compared
     }
     match first_overlap(&changed.old, &changed.new) {
         None => Ok(Compared::Same),
-        Some(overlap) => may(overlap),
+        Some(overlap) => may(with_noted(overlap, &changed.old, &changed.new)),
     }
 }
 
 /// Compares the rows of two policies for a target: by commands that may be answered otherwise, and then by tests on pairs of
 /// rows. Only rows that may fit a command of a row that differs are looked at; beyond a thousand such rows of one of the
-/// policies nothing is known. Returns `AllocError` if allocation fails.
+/// policies nothing is known. What is noted may be met or not: the command of a witness is decided by rows before which nothing is
+/// noted, and by no other row is one covered. Returns `AllocError` if allocation fails.
 pub(crate) fn compared_rows(
     alloc: Global,
     old: &[Ruled<'_>],

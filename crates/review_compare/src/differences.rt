@@ -1,25 +1,31 @@
 //! The differences of two policies, cell by cell.
-ghost use Rattle.std.specs.Prelude.{◌≡◌, ◌++◌, ◌∷◌, [], All, if◌then◌else◌, IfOk, OnOk, Some, option_copied, slice_get};
+ghost use Rattle.std.specs.Prelude.{◌≡◌, ◌++◌, ◌∷◌, [], All, if◌then◌else◌, IfOk, IsTrue, OnOk, Some, option_copied, slice_get};
+ghost use Rattle.std.specs.List.{list_all};
+ghost use Rattle.review_compare.specs.Blocks.{AreGrants, block_resolves};
 ghost use Rattle.review_compare.specs.Differences as differences;
 ghost use Rattle.review_compare.specs.Body.AskClasses.{HaveAsk, IsAskClass};
 ghost use Rattle.review_compare.specs.declared.cell.Cell.{Cell};
 ghost use Rattle.review_compare.specs.Body.Classes.{AddsCells, IsClass, IsClassed};
 ghost use Rattle.review_compare.specs.Body.Comparisons.{IsRight};
+ghost use Rattle.review_compare.specs.Body.LineAtoms.{AreLineAtoms};
 ghost use Rattle.review_compare.specs.Body.Progress as body;
 
 use crate::ask_class::{AskClass, ask_classes};
 use crate::asks::all_asks;
+use crate::block::{Block, blocks_of};
 use crate::cell::Ask;
 use crate::comparison::Comparison;
 use crate::finder::Finder;
 use crate::host_class::{HostClass, add_spot, rows_of};
+use crate::lines::line_atoms;
 use crate::pair::Pair;
 use crate::row::{Dimension, Row, absorb_all};
+use crate::side::Side;
 use crate::spot::{Listed, Spot};
 use review_grants::Scope;
 use std::alloc::{AllocError, Global};
 use sudo_match::{Directory, Group, Machine, Person};
-use sudo_policy::Checked;
+use sudo_policy::{Atom, Checked};
 
 // Whether the user is the one that is asked about, if any.
 fn is_this_user(scope: Option<&Person>, person: &Person) -> bool
@@ -363,9 +369,40 @@ fn rows_where_asked(
     }
 }
 
+// Compares two policies by their grants, with the commands of these if one of them stands for a note.
+fn compared_grants<'a>(
+    alloc: Global,
+    old: &'a Checked,
+    old_grants: Vec<Block<'a>>,
+    old_atoms: &'a [Atom],
+    new: &'a Checked,
+    new_grants: Vec<Block<'a>>,
+    new_atoms: &'a [Atom],
+    directory: &'a Directory,
+    groups: &'a [Group],
+    scope: Scope<'_>,
+) -> Result<Vec<Row>, AllocError>
+    requires old { AreGrants old.now old_grants.items }
+    requires old_resolve { IsTrue (list_all (block_resolves old.now) old_grants.items) }
+    requires old_atoms { AreLineAtoms old_grants.items old_atoms.now }
+    requires new { AreGrants new.now new_grants.items }
+    requires new_resolve { IsTrue (list_all (block_resolves new.now) new_grants.items) }
+    requires new_atoms { AreLineAtoms new_grants.items new_atoms.now }
+    ensures { IfOk result (λ rows. differences.AreDifferences old.entry.now new.entry.now
+        directory.entry.now groups.entry.now (option_copied scope.entry.user)
+        (option_copied scope.entry.host) rows.items) }
+{
+    let asks = all_asks(alloc, directory, groups)?;
+    let old_side = Side::of(alloc, old, old_grants, old_atoms)?;
+    let new_side = Side::of(alloc, new, new_grants, new_atoms)?;
+    let pair = Pair::of(alloc, old_side, new_side, directory, groups)?;
+    rows_where_asked(alloc, &pair, scope, &asks)
+}
+
 /// Compares two policies in the cells of the users and hosts that are asked about: each target (none, and each known user) with
 /// each of the groups (none, and each of them). What a row says is so in each of its cells; in a cell without a row both
-/// policies say the same to every command.
+/// policies say the same to every command, whatever is met of what is noted: a command that stands behind a note in its line may
+/// apply or not, and two of them do alike that are the same and have the same before them in their lines.
 ///
 /// Of cells that differ in the target alone, in the order of the known users, those of which the same is found are one row; and
 /// then rows that differ in the group alone, in the host alone, and in the user alone. Returns `AllocError` if allocation fails.
@@ -381,7 +418,11 @@ pub fn compared_policies(
         groups.now (option_copied scope.entry.user) (option_copied scope.entry.host)
         rows.items) }
 {
-    let asks = all_asks(alloc, directory, groups)?;
-    let pair = Pair::of(alloc, old, new, directory, groups)?;
-    rows_where_asked(alloc, &pair, scope, &asks)
+    let old_grants = blocks_of(alloc, old)?;
+    let new_grants = blocks_of(alloc, new)?;
+    let old_atoms = line_atoms(alloc, &old_grants)?;
+    let new_atoms = line_atoms(alloc, &new_grants)?;
+    compared_grants(
+        alloc, old, old_grants, &old_atoms, new, new_grants, &new_atoms, directory, groups, scope,
+    )
 }

@@ -21,6 +21,7 @@ mod finder;
 mod fitting;
 mod host_class;
 mod laws;
+mod lines;
 mod near;
 mod pair;
 mod row;
@@ -31,6 +32,7 @@ mod side;
 mod spot;
 mod text;
 mod trials;
+mod walk;
 mod witness;
 
 pub use answer::{Answer, answer_between};

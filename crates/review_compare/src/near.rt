@@ -86,12 +86,12 @@ fn near_blocks(
 }
 
 // Appends a copy of a row of a block at the place, if it is near the changed ones.
-fn push_near(
+fn push_near<'a>(
     alloc: Global,
     changed: &[Ruled<'_>],
     place: Place,
-    row: &BlockRow,
-    near: &mut Vec<BlockRow>,
+    row: &BlockRow<'a>,
+    near: &mut Vec<BlockRow<'a>>,
 ) -> Result<(), AllocError>
     ensures { OnOk result (map (body.row_decider place) near.new.items
         ≡ map (body.row_decider place) near.old.items
@@ -100,6 +100,7 @@ fn push_near(
     let ruled = Ruled {
         place,
         answer: row.answer,
+        before: row.before,
         shape: &row.shape,
     };
     if is_near(changed, &ruled) {
@@ -107,6 +108,7 @@ fn push_near(
         let shape = Shape::of(alloc, atom)?;
         near.push(BlockRow {
             answer: row.answer,
+            before: row.before,
             shape,
         })?;
     }

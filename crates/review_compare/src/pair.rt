@@ -16,7 +16,6 @@ use crate::side::Side;
 use crate::spot::Listed;
 use std::alloc::{AllocError, Global};
 use sudo_match::{Directory, Group, Machine, Person};
-use sudo_policy::Checked;
 use sudo_verdict::Asker;
 
 /// Two policies, with the known users, hosts and groups, the blocks near a change, and the blocks with their near rows alone.
@@ -43,17 +42,15 @@ impl<'a> Pair<'a> {
     /// allocation fails.
     pub(crate) fn of(
         alloc: Global,
-        old: &'a Checked,
-        new: &'a Checked,
+        old: Side<'a>,
+        new: Side<'a>,
         directory: &'a Directory,
         groups: &'a [Group],
     ) -> Result<Pair<'a>, AllocError>
-        ensures { IfOk result (λ pair. (pair.old.checked.now ≡ old.now)
-            × (pair.new.checked.now ≡ new.now) × (pair.directory.now ≡ directory.now)
+        ensures { IfOk result (λ pair. (pair.old.checked.now ≡ old.entry.checked.now)
+            × (pair.new.checked.now ≡ new.entry.checked.now) × (pair.directory.now ≡ directory.now)
             × (pair.groups.now ≡ groups.now)) }
     {
-        let old = Side::of(alloc, old)?;
-        let new = Side::of(alloc, new)?;
         let common = common_of(alloc, &old, &new)?;
         let near = near_change(alloc, &old, &new, common)?;
         let parts = parts_near(alloc, &old, &new, common)?;

@@ -3,11 +3,13 @@ ghost use Rattle.std.specs.Prelude.{◌≡◌, ◌||◌, not, is_some, option_ma
 ghost use Rattle.review_compare.specs.Agreement as agreement;
 ghost use Rattle.review_compare.specs.Cells as cells;
 ghost use Rattle.review_compare.specs.Compared as compared;
+ghost use Rattle.review_compare.specs.Lines as lines;
 ghost use Rattle.review_compare.specs.Simply as simply;
 ghost use Rattle.review_compare.specs.Body.Shown as body;
 
 use crate::answer::is_same_answer;
 use crate::shape::Shape;
+use sudo_grammar::Atom;
 use sudo_match::{Tags, Verdict, command_matches};
 use sudo_text::Place;
 
@@ -17,6 +19,8 @@ pub(crate) struct Ruled<'a> {
     pub(crate) place: Place,
     /// The tags that it leaves with, or nothing where it refuses.
     pub(crate) answer: Option<Tags>,
+    /// What stands before its command in its line, where a note is among that.
+    pub(crate) before: &'a [Atom],
     pub(crate) shape: &'a Shape,
 }
 
@@ -27,12 +31,29 @@ pub(crate) struct Overlap<'a> {
     pub(crate) new: Option<Ruled<'a>>,
 }
 
-// Whether one of the rows covers the command.
+/// Whether no note stands before the command of a row.
+pub(crate) fn is_unnoted(before: &[Atom]) -> bool
+    ensures { result ≡ lines.is_unnoted before.now }
+{
+    match before {
+        [] => true,
+        _ => false,
+    }
+}
+
+// Whether the row applies to all that the command fits: it covers the command, and nothing is noted before it.
+fn covers_always(row: &Ruled<'_>, shape: &Shape) -> bool
+    ensures { result ≡ cells.covers_always (cells.lined_of (body.shown row.now)) shape.now.atom }
+{
+    is_unnoted(row.before) && row.shape.covers(shape)
+}
+
+// Whether one of the rows covers the command, and applies wherever it fits.
 fn is_covered(rows: &[Ruled<'_>], shape: &Shape) -> bool
     ensures { result ≡ body.is_covered_by (body.all_shown rows.now) shape.now.atom }
 {
     for row in rows {
-        if row.shape.covers(shape) {
+        if covers_always(row, shape) {
             return true;
         }
     }

@@ -2,20 +2,22 @@
 ghost use Rattle.std.specs.Prelude.{◌≡◌, filter, IfOk, IsTrue, OnOk, option_copied, true};
 ghost use Rattle.std.specs.List.{list_all};
 ghost use Rattle.sudo_verdict.specs.Questions.{Question, question_as};
-ghost use Rattle.review_compare.specs.Blocks.{AreBlocks, block_resolves};
+ghost use Rattle.review_compare.specs.Blocks.{AreBlocks, AreGrants, block_resolves};
 ghost use Rattle.review_compare.specs.Body.Chosen as body;
+ghost use Rattle.review_compare.specs.Body.LineAtoms.{AreLineAtoms};
 ghost use Rattle.review_compare.specs.Body.Shown.{all_shown};
 ghost use Rattle.review_compare.specs.Body.Unchanged.{IsQuiet};
 ghost use Rattle.std.specs.Prelude.{◌++◌, ◌∷◌, ◌&&◌, [], false, if◌then◌else◌};
 ghost use Rattle.sudo_match.specs.declared.people.Machine.{Machine as TheMachine};
 ghost use Rattle.sudo_match.specs.declared.people.Person.{Person as ThePerson};
 
-use crate::block::{Block, blocks_of};
+use crate::block::Block;
 use crate::common::Common;
+use crate::lines::lined_blocks;
 use crate::ruling::Ruled;
 use std::alloc::{AllocError, Global};
 use sudo_match::{Directory, Machine, Person};
-use sudo_policy::{Checked, Runas};
+use sudo_policy::{Atom, Checked, Runas};
 use sudo_verdict::{Asker, allows_runas, lists_host, lists_user};
 
 /// A policy with its grants in blocks.
@@ -52,11 +54,20 @@ fn depends_on_user(runas: Option<&Runas>, target: Option<&Person>) -> bool
 }
 
 impl<'a> Side<'a> {
-    /// Returns the policy with its grants in blocks. Returns `AllocError` if allocation fails.
-    pub(crate) fn of(alloc: Global, checked: &'a Checked) -> Result<Side<'a>, AllocError>
+    /// Returns the policy with its rows in blocks, each with what stands before it in its line: of its grants, and their commands
+    /// if one of them stands for a note. Returns `AllocError` if allocation fails.
+    pub(crate) fn of(
+        alloc: Global,
+        checked: &'a Checked,
+        grants: Vec<Block<'a>>,
+        atoms: &'a [Atom],
+    ) -> Result<Side<'a>, AllocError>
+        requires grants { AreGrants checked.now grants.items }
+        requires resolve { IsTrue (list_all (block_resolves checked.now) grants.items) }
+        requires atoms { AreLineAtoms grants.items atoms.now }
         ensures { IfOk result (λ side. side.checked.now ≡ checked.now) }
     {
-        let blocks = blocks_of(alloc, checked)?;
+        let blocks = lined_blocks(alloc, checked, grants, atoms)?;
         Ok(Side { checked, blocks })
     }
 }
@@ -262,6 +273,7 @@ fn push_rows<'b>(block: &'b Block<'_>, rows: &mut Vec<Ruled<'b>>) -> Result<(), 
         rows.push(Ruled {
             place: block.place,
             answer: row.answer,
+            before: row.before,
             shape: &row.shape,
         })?;
     }

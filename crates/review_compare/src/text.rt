@@ -9,6 +9,7 @@ use crate::compared::{Compared, Decider};
 use crate::row::Row;
 use crate::witness::Witness;
 use audit_files::{push_field, push_next_field, set_place, set_tags, verdict_word};
+use review_grants::{Marks, NotedPlaces, UNMARKED};
 use review_texts::as_written;
 use std::alloc::{AllocError, Global};
 use sudo_grammar::{Atom, Signed};
@@ -217,45 +218,65 @@ fn push_verdict(
     push_three(text, verdict_word(verdict), &place, &tags)
 }
 
-// The paths of the files of both policies.
+// A policy: the paths of its files, and the notes of its lines.
 #[derive(Clone, Copy)]
-struct Files<'a> {
-    old: &'a [Seq<u8>],
-    new: &'a [Seq<u8>],
+struct Shown<'a> {
+    files: &'a [Seq<u8>],
+    noted: &'a NotedPlaces,
 }
 
-// Appends the fields of both verdicts, and the end of the record.
+// Both policies.
+#[derive(Clone, Copy)]
+struct Both<'a> {
+    old: Shown<'a>,
+    new: Shown<'a>,
+}
+
+// Appends a last field, and the end of the record.
+#[tactic(auto, unfolding(csv::specs::Writing::fields_text))]
+fn push_last(text: &mut Vec<u8>, field: &[u8]) -> Result<(), AllocError>
+    ensures { OnOk result (text.new.items ≡ text.old.items
+        ++ (fields_text default_writer (field.now ∷ []) ++ 10 ∷ [])) }
+{
+    push_next_field(text, field)?;
+    text.push(b'\n')?;
+    Ok(())
+}
+
+// Appends the fields of both verdicts, what they depend on, and the end of the record.
 fn push_verdicts(
     alloc: Global,
     text: &mut Vec<u8>,
-    files: Files<'_>,
+    both: Both<'_>,
     old: &Verdict,
     new: &Verdict,
+    depends: &[u8],
 ) -> Result<(), AllocError>
     ensures { OnOk result (text.new.items ≡ text.old.items
-        ++ table.verdicts_text files.entry.old.now files.entry.new.now old.now new.now) }
+        ++ table.verdicts_text (body.source_by both.entry.old)
+        (body.source_by both.entry.new) old.now new.now depends.now) }
 {
-    push_verdict(alloc, text, files.old, old)?;
-    push_verdict(alloc, text, files.new, new)?;
-    text.push(b'\n')?;
-    Ok(())
+    push_verdict(alloc, text, both.old.files, old)?;
+    push_verdict(alloc, text, both.new.files, new)?;
+    push_last(text, depends)
 }
 
 // Appends the record of a witness.
 fn push_witness(
     alloc: Global,
     text: &mut Vec<u8>,
-    files: Files<'_>,
+    both: Both<'_>,
     head: &[u8],
     witness: &Witness,
 ) -> Result<(), AllocError>
     ensures { OnOk result (text.new.items ≡ text.old.items ++ table.witness_line
-        files.entry.old.now files.entry.new.now head.now witness.now) }
+        (body.source_by both.entry.old)
+        (body.source_by both.entry.new) head.now witness.now) }
 {
     text.extend_from_slice(head)?;
     let (command, arguments) = (witness.command.as_slice(), witness.arguments.as_slice());
     push_three(text, witness.answer.name(), command, arguments)?;
-    push_verdicts(alloc, text, files, &witness.old, &witness.new)
+    push_verdicts(alloc, text, both, &witness.old, &witness.new, b"")
 }
 
 /// Returns a copy of an atom. Returns `AllocError` if allocation fails.
@@ -348,37 +369,66 @@ fn row_verdict(row: &Option<Decider>) -> Verdict
     }
 }
 
+// Returns which notes the line of a row has.
+fn row_marks(shown: Shown<'_>, row: &Option<Decider>) -> Marks
+    ensures { result ≡ table.row_marks (body.source_by shown.entry) row.now }
+{
+    match row {
+        None => UNMARKED,
+        Some(decider) => shown.noted.marks(decider.place),
+    }
+}
+
+// Returns the names of the notes of the lines of both rows.
+fn rows_depend(both: Both<'_>, old: &Option<Decider>, new: &Option<Decider>) -> &'static [u8]
+    ensures { result.now ≡ table.rows_depend (body.source_by both.entry.old)
+        (body.source_by both.entry.new) old.now new.now }
+{
+    let before = row_marks(both.old, old);
+    before.joined(row_marks(both.new, new)).text()
+}
+
 // Appends the record of rows that may answer a command otherwise.
 fn push_may(
     alloc: Global,
     text: &mut Vec<u8>,
-    files: Files<'_>,
+    both: Both<'_>,
     head: &[u8],
     old: &Option<Decider>,
     new: &Option<Decider>,
 ) -> Result<(), AllocError>
     ensures { OnOk result (text.new.items ≡ text.old.items ++ table.may_line
-        files.entry.old.now files.entry.new.now head.now old.now new.now) }
+        (body.source_by both.entry.old)
+        (body.source_by both.entry.new) head.now old.now new.now) }
 {
     let atoms = both_atoms(alloc, old, new)?;
     text.extend_from_slice(head)?;
     push_three(text, b"may", &atoms, b"")?;
-    push_verdicts(alloc, text, files, &row_verdict(old), &row_verdict(new))
+    let depends = rows_depend(both, old, new);
+    push_verdicts(
+        alloc,
+        text,
+        both,
+        &row_verdict(old),
+        &row_verdict(new),
+        depends,
+    )
 }
 
 // Appends the records of witnesses.
 fn push_witnesses(
     alloc: Global,
     text: &mut Vec<u8>,
-    files: Files<'_>,
+    both: Both<'_>,
     head: &[u8],
     witnesses: &[Witness],
 ) -> Result<(), AllocError>
     ensures { OnOk result (text.new.items ≡ text.old.items ++ flat_map (table.witness_line
-        files.entry.old.now files.entry.new.now head.now) witnesses.now) }
+        (body.source_by both.entry.old)
+        (body.source_by both.entry.new) head.now) witnesses.now) }
 {
     for witness in witnesses {
-        push_witness(alloc, text, files, head, witness)?;
+        push_witness(alloc, text, both, head, witness)?;
     }
     Ok(())
 }
@@ -387,19 +437,20 @@ fn push_witnesses(
 fn push_found(
     alloc: Global,
     text: &mut Vec<u8>,
-    files: Files<'_>,
+    both: Both<'_>,
     head: &[u8],
     found: &Compared,
 ) -> Result<(), AllocError>
     ensures { OnOk result (text.new.items ≡ text.old.items ++ table.found_lines
-        files.entry.old.now files.entry.new.now head.now found.now) }
+        (body.source_by both.entry.old)
+        (body.source_by both.entry.new) head.now found.now) }
 {
     match found {
         Compared::Same => Ok(()),
         Compared::Differs(witnesses) => {
-            push_witnesses(alloc, text, files, head, witnesses.as_slice())
+            push_witnesses(alloc, text, both, head, witnesses.as_slice())
         }
-        Compared::May { old, new } => push_may(alloc, text, files, head, old, new),
+        Compared::May { old, new } => push_may(alloc, text, both, head, old, new),
     }
 }
 
@@ -407,44 +458,46 @@ fn push_found(
 fn push_row(
     alloc: Global,
     text: &mut Vec<u8>,
-    files: Files<'_>,
+    both: Both<'_>,
     names: &Names,
     row: &Row,
 ) -> Result<(), AllocError>
     ensures { OnOk result (text.new.items ≡ text.old.items ++ body.lines_of
-        files.entry.old.now files.entry.new.now names.now row.now) }
+        (body.source_by both.entry.old)
+        (body.source_by both.entry.new) names.now row.now) }
 {
     let head = row_head(alloc, names, row)?;
-    push_found(alloc, text, files, &head, &row.found)
+    push_found(alloc, text, both, &head, &row.found)
 }
 
 // The names of the columns, as a record.
 const HEADER: &[u8] =
     b"users,hosts,runas_user,runas_group,answer,command,arguments,old,old_place,old_tags,\
-new,new_place,new_tags\n";
+new,new_place,new_tags,depends\n";
 
 // Returns the header and the records of the rows.
 fn text_with(
     alloc: Global,
-    files: Files<'_>,
+    both: Both<'_>,
     names: &Names,
     rows: &[Row],
 ) -> Result<Vec<u8>, AllocError>
     ensures { IfOk result (λ text. text.items ≡ table.table_header ++ 10 ∷ flat_map
-        (body.lines_of files.entry.old.now files.entry.new.now names.now) rows.now) }
+        (body.lines_of (body.source_by both.entry.old)
+        (body.source_by both.entry.new) names.now) rows.now) }
 {
     let mut text = Vec::new(alloc);
     text.extend_from_slice(HEADER)?;
     for row in rows {
-        push_row(alloc, &mut text, files, names, row)?;
+        push_row(alloc, &mut text, both, names, row)?;
     }
     Ok(text)
 }
 
 /// Returns the table of the differences of two policies as CSV: the header
-/// `users,hosts,runas_user,runas_group,answer,command,arguments,old,old_place,old_tags,new,new_place,new_tags`, then for each
-/// row a record for each command that both policies answer otherwise; or one with the answer `may` and the commands of the rows
-/// that may.
+/// `users,hosts,runas_user,runas_group,answer,command,arguments,old,old_place,old_tags,new,new_place,new_tags,depends`, then for
+/// each row a record for each command that both policies answer otherwise, whatever is met of what is noted; or one with the
+/// answer `may` and the commands of the rows that may, where `depends` has the names of the notes of their lines.
 ///
 /// `users` and `hosts` are known ones, each as it would stand in a policy, and `ALL` where they are all; so are `runas_user` and
 /// `runas_group`, which are empty where none is asked for. Returns `AllocError` if allocation fails.
@@ -456,13 +509,21 @@ pub fn differences_text(
     groups: &[Group],
     rows: &[Row],
 ) -> Result<Vec<u8>, AllocError>
-    ensures { IfOk result (λ text. text.items ≡ table.table_text old.now.files new.now.files
-        directory.now groups.now rows.now) }
+    ensures { IfOk result (λ text. text.items ≡ table.table_text (table.source_of old.now)
+        (table.source_of new.now) directory.now groups.now rows.now) }
 {
     let names = names_of(alloc, directory, groups)?;
-    let files = Files {
-        old: old.policy().files.as_slice(),
-        new: new.policy().files.as_slice(),
+    let old_noted = NotedPlaces::of(alloc, old)?;
+    let new_noted = NotedPlaces::of(alloc, new)?;
+    let both = Both {
+        old: Shown {
+            files: old.policy().files.as_slice(),
+            noted: &old_noted,
+        },
+        new: Shown {
+            files: new.policy().files.as_slice(),
+            noted: &new_noted,
+        },
     };
-    text_with(alloc, files, &names, rows)
+    text_with(alloc, both, &names, rows)
 }

@@ -1,15 +1,16 @@
 //! Commands that two policies answer otherwise.
-ghost use Rattle.std.specs.Prelude.{◌≡◌, All, IfOk, IfSome, OnOk};
+ghost use Rattle.std.specs.Prelude.{◌≡◌, All, IfOk, IfSome, OnOk, true};
 ghost use Rattle.review_compare.specs.Cells as cells;
+ghost use Rattle.review_compare.specs.Lines.{Choice, is_unnoted};
 ghost use Rattle.review_compare.specs.Body.Shown as body;
 
 use crate::answer::{Answer, answer_between};
-use crate::ruling::Ruled;
+use crate::ruling::{Ruled, is_unnoted};
 use std::alloc::{AllocError, Global};
 use sudo_match::{Verdict, command_matches};
 use sudo_text::Seq;
 
-/// A command that two policies answer otherwise, with both verdicts.
+/// A command that two policies answer otherwise, with both verdicts, which hold whatever is met of what is noted.
 #[derive(Debug, Drop, PartialEq, Eq)]
 pub struct Witness {
     /// The command, by its path.
@@ -24,23 +25,32 @@ pub struct Witness {
     pub answer: Answer,
 }
 
-// Returns the verdict of a row on a command that it fits.
-fn verdict_by(row: &Ruled<'_>) -> Verdict
-    ensures { result ≡ cells.answered_by row.now.place row.now.answer }
+// Returns the verdict of a row on a command that it fits, if nothing is noted before it.
+fn verdict_by(row: &Ruled<'_>) -> Option<Verdict>
+    ensures { IfSome result (λ v. (is_unnoted row.entry.now.before.now ≡ true)
+        × (v ≡ cells.answered_by row.entry.now.place row.entry.now.answer)) }
 {
+    if !is_unnoted(row.before) {
+        return None;
+    }
     match row.answer {
-        None => Verdict::Deny { place: row.place },
-        Some(tags) => Verdict::Allow {
+        None => Some(Verdict::Deny { place: row.place }),
+        Some(tags) => Some(Verdict::Allow {
             place: row.place,
             tags,
-        },
+        }),
     }
 }
 
-/// Returns the verdict of the last row that fits the command.
-pub(crate) fn verdict_among(rows: &[Ruled<'_>], command: &[u8], arguments: &[u8]) -> Verdict
-    ensures { result
-        ≡ cells.verdict_among (body.all_shown rows.now) command.now arguments.now }
+/// Returns the verdict of the last row that fits the command, if nothing is noted before that row: the verdict, whatever is met.
+pub(crate) fn sure_verdict(
+    rows: &[Ruled<'_>],
+    command: &[u8],
+    arguments: &[u8],
+) -> Option<Verdict>
+    ensures { IfSome result (λ v. (met : Choice) → v
+        ≡ cells.verdict_among met (body.all_shown rows.entry.now) command.entry.now
+        arguments.entry.now) }
 {
     let mut end = rows.len();
     while end > 0 {
@@ -50,11 +60,11 @@ pub(crate) fn verdict_among(rows: &[Ruled<'_>], command: &[u8], arguments: &[u8]
             return verdict_by(row);
         }
     }
-    Verdict::NoMatch
+    Some(Verdict::NoMatch)
 }
 
-/// Returns the command as a witness, if both lists of rows do not say the same to it. Returns `AllocError` if allocation
-/// fails.
+/// Returns the command as a witness, if both lists of rows do not say the same to it, whatever is met of what is noted. Returns
+/// `AllocError` if allocation fails.
 pub(crate) fn witness_of(
     alloc: Global,
     old: &[Ruled<'_>],
@@ -66,10 +76,12 @@ pub(crate) fn witness_of(
     ensures of { IfOk result (λ found. IfSome found (λ w. (w.command ≡ command.now)
         × (w.arguments ≡ arguments.now))) }
 {
-    let (before, after) = (
-        verdict_among(old, command, arguments),
-        verdict_among(new, command, arguments),
-    );
+    let Some(before) = sure_verdict(old, command, arguments) else {
+        return Ok(None);
+    };
+    let Some(after) = sure_verdict(new, command, arguments) else {
+        return Ok(None);
+    };
     let Some(answer) = answer_between(&before, &after) else {
         return Ok(None);
     };

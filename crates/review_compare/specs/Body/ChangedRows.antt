@@ -4,6 +4,7 @@ use Rattle.std.specs.List.{list_any}
 use Rattle.sudo_match.specs.Matching.{command_fits}
 use Rattle.review_compare.specs.Cells.{Decider, verdict_among}
 use Rattle.review_compare.specs.Compared.{said}
+use Rattle.review_compare.specs.Lines.{Choice}
 use Rattle.review_compare.specs.Simply.{disjoint_simply}
 
 -- the items that are neither among so many at the front nor among so many at the back
@@ -18,11 +19,11 @@ is_fitted ds command arguments = list_any (λ d. command_fits d.atom command arg
 abbrev pub is_near : List Decider → Decider → Bool
 is_near changed d = list_any (λ e. not (disjoint_simply d.atom e.atom)) changed
 
--- a command that no changed row fits is answered alike; one that a changed row fits is answered by the near rows
+-- whatever is met, a command that no changed row fits is answered alike; one that a changed row fits is answered by the near rows
 pub record AreChanged (ds es changed near_ds near_es : List Decider) : Type 0 where
-  pub others : (command arguments : List ℕ) → is_fitted changed command arguments ≡ false →
-      said (verdict_among ds command arguments) ≡ said (verdict_among es command arguments)
-  pub old : (command arguments : List ℕ) → is_fitted changed command arguments ≡ true →
-      verdict_among near_ds command arguments ≡ verdict_among ds command arguments
-  pub new : (command arguments : List ℕ) → is_fitted changed command arguments ≡ true →
-      verdict_among near_es command arguments ≡ verdict_among es command arguments
+  pub others : (met : Choice) (command arguments : List ℕ) → is_fitted changed command arguments ≡ false →
+      said (verdict_among met ds command arguments) ≡ said (verdict_among met es command arguments)
+  pub old : (met : Choice) (command arguments : List ℕ) → is_fitted changed command arguments ≡ true →
+      verdict_among met near_ds command arguments ≡ verdict_among met ds command arguments
+  pub new : (met : Choice) (command arguments : List ℕ) → is_fitted changed command arguments ≡ true →
+      verdict_among met near_es command arguments ≡ verdict_among met es command arguments

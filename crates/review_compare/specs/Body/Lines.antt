@@ -4,8 +4,10 @@ use Rattle.csv.specs.Writing.{default_writer, field_text, fields_text}
 use Rattle.sudo_match.specs.declared.people.Group.{Group}
 use Rattle.sudo_match.specs.KnownRows.{KnownRows}
 use Rattle.review_compare.specs.declared.row.Row.{Row}
+use Rattle.review_grants.specs.Depends.{marks_in}
 use Rattle.review_compare.specs.declared.text.Names.{Names}
-use Rattle.review_compare.specs.Table.{asked_text, found_lines, group_names, host_names, names_text, user_names}
+use Rattle.review_compare.specs.declared.text.Shown.{Shown}
+use Rattle.review_compare.specs.Table.{Source, asked_text, found_lines, group_names, host_names, names_text, user_names}
 
 -- a name behind a comma and a space
 abbrev pub separated : List ℕ → List ℕ
@@ -25,5 +27,8 @@ head_of names r =
     ∷ asked_text (map (λ v. v.items) names.groups.items) r.groups ∷ [])
 
 -- the records of a row
-abbrev pub lines_of : List (List ℕ) → List (List ℕ) → Names → Row → List ℕ
-lines_of old_files new_files names r = found_lines old_files new_files (head_of names r) r.found
+abbrev pub lines_of : Source → Source → Names → Row → List ℕ
+lines_of s t names row = found_lines s t (head_of names row) row.found
+
+abbrev pub source_by : Shown → Source
+source_by s = record { files = s.files.now; marks = marks_in s.noted.now }

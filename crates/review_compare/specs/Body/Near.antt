@@ -39,7 +39,7 @@ pub record AreNear (c : Common) (bs cs : List Block) (l : Listed) : Type 0 where
 
 -- what a row of a block at this place answers
 abbrev pub row_decider : Place → BlockRow → Decider
-row_decider place r = record { place = place; answer = r.answer; atom = r.shape.atom }
+row_decider place r = record { place = place; answer = r.answer; before = r.before.now; atom = r.shape.atom }
 
 -- the rows that are near
 abbrev pub near_of : List Decider → List Decider → List Decider

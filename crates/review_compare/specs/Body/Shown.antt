@@ -8,18 +8,19 @@ use Rattle.review_compare.specs.Witnesses.{IsWitness}
 use Rattle.review_compare.specs.Compared.{same_answer}
 use Rattle.sudo_match.specs.declared.request.Tags.{Tags}
 use Rattle.review_compare.specs.Agreement.{Ruling}
-use Rattle.review_compare.specs.Cells.{Decider, ruling_by}
-use Rattle.review_compare.specs.Simply.{covers_simply, disjoint_simply}
+use Rattle.review_compare.specs.Cells.{Decider, covers_always, lined_of, ruling_by}
+use Rattle.review_compare.specs.Lines.{Lined}
+use Rattle.review_compare.specs.Simply.{disjoint_simply}
 
 abbrev pub shown : Ruled → Decider
-shown r = record { place = r.place; answer = r.answer; atom = r.shape.now.atom }
+shown r = record { place = r.place; answer = r.answer; before = r.before.now; atom = r.shape.now.atom }
 
 abbrev pub all_shown : List Ruled → List Decider
 all_shown rs = map shown rs
 
--- one of these covers the atom
+-- one of these covers the atom, and applies wherever it fits
 abbrev pub is_covered_by : List Decider → Atom → Bool
-is_covered_by ds a = list_any (λ d. covers_simply d.atom a) ds
+is_covered_by ds a = list_any (λ d. covers_always (lined_of d) a) ds
 
 -- one of these or of those covers the atom
 abbrev pub is_covered_by_either : List Decider → List Decider → Atom → Bool
@@ -56,5 +57,5 @@ abbrev pub IsShownWitness : List Ruled → List Ruled → Witness → Type 0
 IsShownWitness rs ss w = IsWitness (all_shown rs) (all_shown ss) w
 
 -- the ruling of a row
-abbrev pub ruling_of : Ruled → Ruling Atom (Option Tags)
+abbrev pub ruling_of : Ruled → Ruling Lined (Option Tags)
 ruling_of r = ruling_by (shown r)

@@ -1,6 +1,5 @@
 -- The common prefix and suffix of two policies' blocks, and the blocks between; only proofs of bodies need these definitions.
 use Rattle.std.specs.Prelude.{◌≡◌, ◌<◌, ◌≤◌, ◌+◌, ◌-◌, ℕ, List, [], length, map, slice_get, Option, option_map}
-use Rattle.sudo_grammar.specs.declared.kind.Atom.{Atom}
 use Rattle.sudo_grammar.specs.declared.kind.Kind.TheVariants as kind
 use Rattle.sudo_grammar.specs.declared.kind.Member.{Member}
 use Rattle.sudo_grammar.specs.declared.kind.Signed.{Signed}
@@ -14,6 +13,7 @@ use Rattle.review_compare.specs.declared.common.Common.{Common}
 use Rattle.review_compare.specs.Agreement.{Ruling}
 use Rattle.review_compare.specs.Blocks.{block_stands}
 use Rattle.review_compare.specs.Cells.{ruling_by}
+use Rattle.review_compare.specs.Lines.{Lined}
 use Rattle.review_compare.specs.Body.Chosen.{standing_if}
 
 -- a list of a runas written out, if there is one
@@ -29,7 +29,7 @@ abbrev pub StandAlike : Policy → Block → Policy → Block → Type 0
 StandAlike p b r c = (q : Question) → block_stands p q b ≡ block_stands r q c
 
 -- what the block at an index answers to a question: nothing, if it does not stand
-abbrev pub rulings_at : Policy → List Block → Question → ℕ → List (Ruling Atom (Option Tags))
+abbrev pub rulings_at : Policy → List Block → Question → ℕ → List (Ruling Lined (Option Tags))
 rulings_at p bs q i = map ruling_by (standing_if p q (slice_get bs i))
 
 -- the block of one policy and that of another answer the same to every question

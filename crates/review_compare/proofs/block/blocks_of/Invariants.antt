@@ -1,7 +1,8 @@
 use Rattle.std.proofs.Common.{◌≡◌, IsTrue, flat_map, map, take}
 use Rattle.std.specs.List.{list_all}
 use Rattle.sudo_verdict.specs.Grants.{entry_grants}
-use Rattle.review_compare.specs.Blocks.{block_resolves, block_wides, wide_of}
+use Rattle.review_compare.specs.Blocks.{block_resolves, block_wides}
+use Rattle.review_compare.specs.Cells.{wide_of}
 use Rattle.review_compare.proofs.block.blocks_of.Given as goal
 
 abbrev pub invariant-loop-entry : goal.invariant-loop-entry

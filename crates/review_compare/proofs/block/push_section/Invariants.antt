@@ -1,7 +1,8 @@
 use Rattle.std.proofs.Common.{◌≡◌, ◌++◌, IsTrue, flat_map, map, take}
 use Rattle.std.specs.List.{enumerate_from, list_all}
 use Rattle.sudo_verdict.specs.Grants.{place_grants}
-use Rattle.review_compare.specs.Blocks.{block_resolves, block_wides, wide_of}
+use Rattle.review_compare.specs.Blocks.{block_resolves, block_wides}
+use Rattle.review_compare.specs.Cells.{wide_of}
 use Rattle.review_compare.specs.Body.Heads.{IsInForce}
 use Rattle.review_compare.proofs.block.push_section.Given as goal
 

@@ -1,7 +1,8 @@
 use Rattle.std.proofs.Common.{◌≡◌, ◌++◌, IsTrue, flat_map, map, take}
 use Rattle.std.specs.List.{list_all}
 use Rattle.sudo_verdict.specs.Grants.{section_grants}
-use Rattle.review_compare.specs.Blocks.{block_resolves, block_wides, wide_of}
+use Rattle.review_compare.specs.Blocks.{block_resolves, block_wides}
+use Rattle.review_compare.specs.Cells.{wide_of}
 use Rattle.review_compare.proofs.block.push_sections.Given as goal
 
 abbrev pub invariant-loop-section : goal.invariant-loop-section
