@@ -26,7 +26,7 @@ use Rattle.review_roots.proofs.NoteLemmas.{holds-of-no-note}
 use Rattle.review_compare.specs.Agreement.{AreSound, answer_of}
 use Rattle.review_compare.specs.Compared.{said}
 use Rattle.review_compare.specs.Lines.{Choice, Line, Lined, all_met, at_line, fits_where, is_met, is_note_atom, is_unnoted, noted, nowhere}
-use Rattle.review_compare.specs.Cells.{AgreeingRowsSaySame, Decider, RowsDecide, Wide, answered_by, answered_if_any, covers_always}
+use Rattle.review_compare.specs.Cells.{AgreeingRowsSaySame, Decider, RequestsAnsweredSame, RowsDecide, Wide, answered_by, answered_if_any, covers_always}
 use Rattle.review_compare.specs.Cells.{deciders, line_after, lined, lined_of, policy_rows, rows_agree, ruling_by, simple_tests}
 use Rattle.review_compare.specs.Cells.{verdict_among, verdict_where, wide_of, wide_stands, with_before}
 use Rattle.review_compare.specs.Simply.{covers_simply}
@@ -129,6 +129,9 @@ module _ (p : Policy) (q : Question) (c x : List ℕ) where
 
 pub rows_decide : RowsDecide
 rows_decide p q c x = rows-decide p q c x
+
+pub answered_same : RequestsAnsweredSame
+answered_same old new q same c x = ap said (rows-decide old q c x) ∙ same all_met c x ∙ sym (ap said (rows-decide new q c x))
 
 -- ---- Rows that agree
 

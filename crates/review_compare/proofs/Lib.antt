@@ -11,6 +11,7 @@ pub mod MergeLemmas
 pub mod DifferenceLemmas
 pub mod RowLemmas
 pub mod LineLemmas
+pub mod UnnotedLemmas
 pub mod TextLemmas
 pub mod UnchangedLemmas
 pub mod ClassLemmas

@@ -1,6 +1,7 @@
 -- What two policies say to each command of a cell: a user on a host who asks for a target and a group, if any.
 -- sudoers(5), "User Specification": where several rows match, the last one is used. What is noted may be met or not.
 use Rattle.std.specs.Prelude.{◌≡◌, ℕ, Bool, true, false, ◌&&◌, if◌then◌else◌, List, [], ◌∷◌, ◌++◌, filter, map, Option, Some, None}
+use Rattle.std.specs.List.{list_any}
 use Rattle.sudo_text.specs.declared.line.Place.{Place}
 use Rattle.sudo_grammar.specs.declared.kind.Atom.{Atom}
 use Rattle.sudo_grammar.specs.declared.kind.Member.{Member}
@@ -16,6 +17,7 @@ use Rattle.sudo_verdict.specs.RunasForms.{runas_allows}
 use Rattle.sudo_verdict.specs.Questions.{Question}
 use Rattle.sudo_verdict.specs.Grants.{Grant, grants}
 use Rattle.sudo_verdict.specs.Verdicts.{verdict_on}
+use Rattle.review_grants.specs.Depends.{is_note_grant}
 use Rattle.review_roots.specs.Levels.{allowed, with_command}
 use Rattle.review_compare.specs.declared.answer.Answer.{Answer}
 use Rattle.review_compare.specs.declared.answer.Answer.TheVariants as answer
@@ -149,6 +151,16 @@ rows_agree ds es = agree simple_tests (map ruling_by ds) (map ruling_by es)
 abbrev pub RowsDecide : Type 0
 RowsDecide = (p : Policy) (q : Question) (command arguments : List ℕ) →
     verdict_on p (with_command q command arguments) ≡ verdict_where all_met p q command arguments
+
+-- where no grant of a policy stands for a note, its verdicts are the same whatever is met
+abbrev pub NothingDepends : Type 0
+NothingDepends = (p : Policy) → list_any is_note_grant (grants p) ≡ false → (q : Question) (met : Choice) (command arguments : List ℕ) →
+    verdict_where met p q command arguments ≡ verdict_on p (with_command q command arguments)
+
+-- policies that say the same whatever is met do so where all is met: so do the verdicts on requests
+abbrev pub RequestsAnsweredSame : Type 0
+RequestsAnsweredSame = (old new : Policy) (q : Question) → SaySame old new q → (command arguments : List ℕ) →
+    said (verdict_on old (with_command q command arguments)) ≡ said (verdict_on new (with_command q command arguments))
 
 -- rows that agree say the same to every command, whatever is met
 abbrev pub AgreeingRowsSaySame : Type 0

@@ -84,22 +84,26 @@ fn last_noted<'a>(rows: &[Ruled<'a>]) -> Option<Ruled<'a>> {
     found
 }
 
-// Returns the rows that may answer otherwise: with one before which something is noted, if there is any near the change.
+// Returns the rows that may answer otherwise: with one before which something is noted, if there is any near the change. It stands
+// where no row does; otherwise in place of the row of its policy.
 fn with_noted<'a>(overlap: Overlap<'a>, old: &[Ruled<'a>], new: &[Ruled<'a>]) -> Overlap<'a> {
     if is_noted(overlap.old) || is_noted(overlap.new) {
         return overlap;
     }
-    match (last_noted(old), last_noted(new)) {
-        (_, Some(row)) => Overlap {
-            old: overlap.old,
-            new: Some(row),
-        },
-        (Some(row), None) => Overlap {
-            old: Some(row),
+    let (noted_old, noted_new) = (last_noted(old), last_noted(new));
+    if noted_old.is_some() && (overlap.old.is_none() || noted_new.is_none()) {
+        return Overlap {
+            old: noted_old,
             new: overlap.new,
-        },
-        (None, None) => overlap,
+        };
     }
+    if noted_new.is_some() {
+        return Overlap {
+            old: overlap.old,
+            new: noted_new,
+        };
+    }
+    overlap
 }
 
 // The most rows of a policy that are compared pair by pair.

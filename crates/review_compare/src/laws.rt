@@ -1,6 +1,6 @@
 //! The laws of rulings. The functions have no effect: each contract is a law.
 ghost use Rattle.review_compare.specs.Agreement.{Agreement};
-ghost use Rattle.review_compare.specs.Cells.{AgreeingRowsSaySame, RowsDecide};
+ghost use Rattle.review_compare.specs.Cells.{AgreeingRowsSaySame, NothingDepends, RequestsAnsweredSame, RowsDecide};
 ghost use Rattle.review_compare.specs.Compared.{PoliciesAgree};
 ghost use Rattle.review_compare.specs.Covering.{AgreementOnCommands, CoversIsSound, DisjointIsSound};
 ghost use Rattle.review_compare.specs.Simply.{CoversIsSound as SimplyCovers, DisjointIsSound as SimplyDisjoint};
@@ -33,12 +33,20 @@ pub fn policies_agree()
     ensures { PoliciesAgree }
 {}
 
-/// The verdict on a command is that of the last row for the target that fits it.
+/// The verdict on a command is that of the last row for the target that fits it: the case in which all that is noted is met. Where
+/// nothing is noted, it is the verdict whatever is met.
 pub fn rows_decide()
-    ensures { RowsDecide }
+    ensures all_met { RowsDecide }
+    ensures unnoted { NothingDepends }
 {}
 
-/// Where the rows of two policies for a target agree by the tests that the program makes, both say the same to every command.
+/// Where both policies say the same to a command whatever is met of what is noted, the verdicts on a request for it say the same.
+pub fn same_cells_answer_alike()
+    ensures { RequestsAnsweredSame }
+{}
+
+/// Where the rows of two policies for a target agree by the tests that the program makes, both say the same to every command,
+/// whatever is met of what is noted.
 pub fn agreeing_rows_say_same()
     ensures { AgreeingRowsSaySame }
 {}

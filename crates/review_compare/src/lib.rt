@@ -41,7 +41,7 @@ pub use compared::{Compared, Decider};
 pub use differences::compared_policies;
 pub use laws::{
     agreeing_rows_say_same, commands_agree, policies_agree, rows_decide, rulings_agree,
-    simple_tests_are_sound, tests_are_sound,
+    same_cells_answer_alike, simple_tests_are_sound, tests_are_sound,
 };
 pub use row::Row;
 pub use text::differences_text;

@@ -43,11 +43,7 @@ fn verdict_by(row: &Ruled<'_>) -> Option<Verdict>
 }
 
 /// Returns the verdict of the last row that fits the command, if nothing is noted before that row: the verdict, whatever is met.
-pub(crate) fn sure_verdict(
-    rows: &[Ruled<'_>],
-    command: &[u8],
-    arguments: &[u8],
-) -> Option<Verdict>
+pub(crate) fn sure_verdict(rows: &[Ruled<'_>], command: &[u8], arguments: &[u8]) -> Option<Verdict>
     ensures { IfSome result (λ v. (met : Choice) → v
         ≡ cells.verdict_among met (body.all_shown rows.entry.now) command.entry.now
         arguments.entry.now) }
