@@ -5,16 +5,12 @@ use Rattle.std.specs.Prelude.{◌||◌, if◌then◌else◌}
 use Rattle.std.specs.List.{list_any}
 use Rattle.sudo_grammar.specs.declared.policy.Policy.{Policy}
 use Rattle.sudo_verdict.specs.Questions.{Question}
-use Rattle.review_compare.specs.Cells.{SaySame, deciders}
-use Rattle.review_compare.specs.Compared.{said}
 use Rattle.review_compare.specs.Differences.{Finds, FoundIf, SameIf, question_at}
-use Rattle.review_compare.specs.Witnesses.{RowsSaySame}
 use Rattle.review_compare.specs.declared.cell.Cell.{Cell}
 use Rattle.review_compare.specs.declared.compared.Compared.{Compared}
 use Rattle.review_compare.specs.declared.compared.Compared.TheVariants as compared
 use Rattle.review_compare.specs.declared.row.Row.{Row}
 use Rattle.review_compare.specs.declared.witness.Witness.{Witness}
-use Rattle.review_compare.proofs.CellLemmas.{rows_decide}
 use Rattle.review_roots.specs.KnownGroups.{known_groups}
 use Rattle.review_commands.specs.Comparing.{QuietSaysSame, are_shown, is_shown}
 
@@ -37,17 +33,13 @@ unshown (r ∷ rows) c f none finds =
       | inr more ↦ unshown rows c f both.1 more
     ]
 
-say-same : (old new : Policy) (q : Question) → RowsSaySame (deciders old q) (deciders new q) → SaySame old new q
-say-same old new q same command arguments =
-    ap said (rows_decide old q command arguments) ∙ same command arguments ∙ ap said (sym (rows_decide new q command arguments))
-
 some-shown : (ws : List Witness) → 0 < length ws → are_shown ws ≡ false → ⊥
 some-shown [] some none = absurd (omega (arith, some))
 some-shown (w ∷ ws) some none = absurd cc
 
 found-same : (old new : Policy) (o : Option Question) (f : Compared) → FoundIf old new o f → is_shown f ≡ false → SameIf old new o
 found-same old new None f found none = tt
-found-same old new (Some q) compared.Same found none = say-same old new q found
+found-same old new (Some q) compared.Same found none = found
 found-same old new (Some q) (compared.Differs ws) found none = absurd (some-shown ws found.0 none)
 found-same old new (Some q) (compared.May before after) found none = absurd cc
 

@@ -15,7 +15,7 @@ use Rattle.sudo_policy.specs.Checking.{Passes}
 use Rattle.sudo_verdict.specs.Questions.{looked_up}
 use Rattle.review_cautions.specs.declared.caution.Caution.{Caution}
 use Rattle.review_compare.specs.Differences.{AreDifferences, IsAskedAbout, SameIf, question_at}
-use Rattle.review_compare.specs.Table.{table_text}
+use Rattle.review_compare.specs.Table.{source_of, table_text}
 use Rattle.review_compare.specs.declared.cell.Cell.{Cell}
 use Rattle.review_compare.specs.declared.compared.Compared.{Compared}
 use Rattle.review_compare.specs.declared.compared.Compared.TheVariants as compared
@@ -94,7 +94,7 @@ pub record AreDifferenceRows (person : Option Person) (machine : Option Machine)
     (status : ℕ) : Type 0 where
   pub rows : List Row
   pub are : AreDifferences old new d (known_groups d) person machine rows
-  pub text_is : text ≡ table_text old.files new.files d (known_groups d) rows
+  pub text_is : text ≡ table_text (source_of old) (source_of new) d (known_groups d) rows
   pub status_is : status ≡ differences_status rows
 
 -- the same for the user and the host of these names, where one is given
@@ -106,7 +106,8 @@ pub record AreNamedDifferences (user host : Option (List ℕ)) (old new : Policy
   pub is_machine : looked_up (host_named d) host ≡ Some machine
   pub are : AreDifferenceRows person machine old new d text status
 
--- where the status is 0, both policies say the same to every command in each cell that is asked about
+-- where the status is 0, both policies say the same to every command in each cell that is asked about, whatever is met of what is
+-- noted
 abbrev pub QuietSaysSame : Type 0
 QuietSaysSame =
     (person : Option Person) (machine : Option Machine) (old new : Policy) (d : KnownRows) (text : List ℕ) (c : Cell) →

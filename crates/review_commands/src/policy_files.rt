@@ -50,7 +50,7 @@ fn files_below<'a>(
 pub(crate) fn policy_files<'a>(
     rt: &'a HostRuntime,
     policy: PolicyPath<'_>,
-) -> Result<Masked<PolicyFiles<'a>>, MachineFileFault> {
+) -> Result<MaskedFiles<'a>, MachineFileFault> {
     let netgroups = netgroups_at(rt, policy.netgroups)?;
     let files = files_below(rt, policy.root)?;
     let readable = Readable {
@@ -60,16 +60,15 @@ pub(crate) fn policy_files<'a>(
     Ok(Masked::new(files, readable))
 }
 
-// Returns the files of this machine, with their masked texts. Digests, times and roots stay, and the reader refuses them.
+// Returns the files of this machine, with their masked texts. Digests, times and roots stay if they are not noted, and the reader
+// refuses them.
 fn machine_files<'a>(
     rt: &'a HostRuntime,
     netgroups: Option<&str>,
-) -> Result<Masked<PolicyFiles<'a>>, MachineFileFault> {
+    noted: bool,
+) -> Result<MaskedFiles<'a>, MachineFileFault> {
     let netgroups = netgroups_at(rt, netgroups)?;
-    let readable = Readable {
-        noted: false,
-        netgroups,
-    };
+    let readable = Readable { noted, netgroups };
     Ok(Masked::new(PolicyFiles::Machine(Disk::new(rt)), readable))
 }
 
@@ -80,9 +79,10 @@ pub(crate) type MaskedFiles<'a> = Masked<PolicyFiles<'a>>;
 pub(crate) fn pair_files<'a>(
     rt: &'a HostRuntime,
     netgroups: Option<&str>,
+    noted: bool,
 ) -> Result<(MaskedFiles<'a>, MaskedFiles<'a>), MachineFileFault> {
-    let old = machine_files(rt, netgroups)?;
-    let new = machine_files(rt, netgroups)?;
+    let old = machine_files(rt, netgroups, noted)?;
+    let new = machine_files(rt, netgroups, noted)?;
     Ok((old, new))
 }
 

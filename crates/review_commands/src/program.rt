@@ -231,9 +231,17 @@ fn run_subjects(rt: &HostRuntime, paths: Paths<'_>) -> u8 {
     )
 }
 
+// Returns the files of a policy of this machine.
+fn files_of<'a>(
+    rt: &'a HostRuntime,
+    file: &'a str,
+) -> Result<Masked<PolicyFiles<'a>>, AllocError> {
+    policy_files(rt, PolicyPath { file, root: None })
+}
+
 // Lists what a change of a policy does, and returns the exit status.
 fn run_compare(rt: &HostRuntime, paths: PairPaths<'_>, names: ScopeNames<'_>) -> u8 {
-    let (mut before, mut after) = match pair_files(rt, paths.netgroups) {
+    let (mut before, mut after) = match pair_files(rt, paths.netgroups, true) {
         Ok(pair) => pair,
         Err(fault) => return refused(rt, fault),
     };
@@ -263,7 +271,7 @@ fn run_changes<T: Threads + Wait + Sync>(
     paths: PairPaths<'_>,
     words: &[&str],
 ) -> u8 {
-    let (mut before, mut after) = match pair_files(rt, paths.netgroups) {
+    let (mut before, mut after) = match pair_files(rt, paths.netgroups, false) {
         Ok(pair) => pair,
         Err(fault) => return refused(rt, fault),
     };
