@@ -23,7 +23,7 @@ from support import PROGRAM, REQUESTS_HEADER, REVIEW, needs_program, needs_revie
 POLICIES = int(os.environ.get("POLICIES", "30"))
 FIRST = int(os.environ.get("FIRST", "0"))
 PROBES = int(os.environ.get("PROBES", "12"))
-HEADER = "users,hosts,runas_user,runas_group,answer,command,arguments,old,old_place,old_tags,new,new_place,new_tags"
+HEADER = "users,hosts,runas_user,runas_group,answer,command,arguments,old,old_place,old_tags,new,new_place,new_tags,depends"
 # The lines that count the cautions on the policies, where there are some.
 NOTICES = re.compile("".join(rf"(?:sudo_review: {name}: [1-9][0-9]* cautions \([a-z, -]+\)\n)?" for name in ("old", "new")))
 
@@ -178,7 +178,7 @@ class Comparisons(Drawn):
         self.assertEqual(NOTICES.sub("", os.fsdecode(done.stderr), count=1), "")
         header, *rows = csv.reader(io.StringIO(os.fsdecode(done.stdout), newline=""))
         self.assertEqual((",".join(header), done.returncode), (HEADER, 5 if rows else 0))
-        return [Row(cells_of(*row[:4]), row[4], row[5], row[6], Said(*row[7:10]), Said(*row[10:])) for row in rows]
+        return [Row(cells_of(*row[:4]), row[4], row[5], row[6], Said(*row[7:10]), Said(*row[10:13])) for row in rows]
 
     def said(self, policy: str, name: str, requests: list[Request]) -> list[Said]:
         """Returns what `sudo_audit` says to requests under a policy, whose file has this name in places."""
