@@ -231,14 +231,6 @@ fn run_subjects(rt: &HostRuntime, paths: Paths<'_>) -> u8 {
     )
 }
 
-// Returns the files of a policy of this machine.
-fn files_of<'a>(
-    rt: &'a HostRuntime,
-    file: &'a str,
-) -> Result<Masked<PolicyFiles<'a>>, AllocError> {
-    policy_files(rt, PolicyPath { file, root: None })
-}
-
 // Lists what a change of a policy does, and returns the exit status.
 fn run_compare(rt: &HostRuntime, paths: PairPaths<'_>, names: ScopeNames<'_>) -> u8 {
     let (mut before, mut after) = match pair_files(rt, paths.netgroups, true) {
