@@ -446,7 +446,7 @@ fn asked_of<'a, S: AsStr>(
 /// `rules FILE --users F --hosts F [--workers N] [NAME=PATH]...`,
 /// `compare OLD NEW --users F --hosts F [--user NAME] [--host NAME]`, or
 /// `compare OLD NEW --users F --hosts F --requests NAME=PATH...`, where N is 1 to 16, by default 2; each but `compare`
-/// takes `--root DIR` behind its name.
+/// takes `--root DIR` behind its name, and each `--netgroups F`.
 ///
 /// Returns `clap`'s error, apart from allocation failure, exactly if `clap` does not accept the
 /// words (they are no such command, or ask for help or for the version), a CLASS is no class of cautions, a PATH neither begins
