@@ -161,21 +161,28 @@ class Host:
             asked.append(given_by([it for it in self.grants[one] if self.allowed(it.runas, one, None, other.added)]))
         return max(asked, key=lambda given: given[:2])
 
-    def reaching(self, target: str, level: int, ease: int = 0) -> set[State]:
-        """Returns the states that lead to a target by steps of a level or a better one, and of an ease or a greater one."""
-        found = {state for state in STATES if state.user == target}
-        good = {pair for pair, it in self.steps.items() if it.level >= level and it.ease >= ease}
-        while more := {one for one, other in good if other in found and one not in found}:
-            found |= more
-        return found
+    def asked(self, user: str, one: State, other: State) -> int:
+        """Returns the place among `PASSWORDS` of that for which a step asks, in a chain that begins with a user."""
+        ease = self.steps[one, other].ease
+        return 2 - ease if ease else 2 + (one.user != user)
 
-    def levels(self) -> dict[str, tuple[str, int]]:
-        """Returns the best level of each user that leads to root, and the greatest ease of a chain of that level."""
-        best: dict[str, tuple[str, int]] = {}
-        for level in (1, 2, 3):
-            for ease in (0, 1, 2):
-                found = self.reaching("root", level, ease)
-                best |= {user: (LEVELS[level], ease) for user in GROUPS if State(user) in found and user != "root"}
+    def is_reached(self, user: str, level: int, most: int) -> bool:
+        """Returns whether root is reached from a user by steps of a level or a better one that ask for no more than a password."""
+        found = {State(user)}
+        good = [
+            (one, other) for (one, other), it in self.steps.items() if it.level >= level and self.asked(user, one, other) <= most
+        ]
+        while more := {other for one, other in good if one in found and other not in found}:
+            found |= more
+        return any(state.user == "root" for state in found)
+
+    def best(self) -> dict[str, tuple[str, str]]:
+        """Returns the best level of each user that leads to root, and the least password of a chain of that level."""
+        best: dict[str, tuple[str, str]] = {}
+        for level, most in itertools.product((1, 2, 3), (3, 2, 1, 0)):
+            best |= {
+                user: (LEVELS[level], PASSWORDS[most]) for user in GROUPS if user != "root" and self.is_reached(user, level, most)
+            }
         return best
 
     def shown(self, row: Row) -> tuple[str, str, str, str]:
@@ -187,7 +194,7 @@ class Host:
         if states[-1].user != "root":
             states.append(State("root"))
         steps = [self.steps[pair] for pair in zip(states, states[1:])]
-        asked = [2 - step.ease if step.ease else 2 + (it.user != row.user) for it, step in zip(states, steps)]
+        asked = [self.asked(row.user, *pair) for pair in zip(states, states[1:])]
         return LEVELS[min(step.level for step in steps)], PASSWORDS[max(asked, default=0)], steps[0].place, steps[0].tags
 
 
@@ -258,14 +265,14 @@ class Roots(Drawn):
 
     def check(self, host: Host, rows: list[Row], is_sure: bool) -> None:
         """Fails where the rows of a host are not those of the second body."""
-        best = host.levels()
+        best = host.best()
         self.assertEqual(rows[0], Row("root", host.host, "root", "root", "none", "", "", "", ""))
         self.assertEqual([row.user for row in rows], [user for user in GROUPS if user in best or user == "root"])
         for row in rows[1:]:
             level, password, place, tags = host.shown(row)
             wanted = password if is_sure or password == "none" else "?"
             self.assertEqual(row[2:7], ("root", level, wanted, place, tags))
-            self.assertEqual((row.level, max(0, 2 - PASSWORDS.index(password))), best[row.user])
+            self.assertEqual((row.level, password), best[row.user])
 
     def seen(self, policy: listing.Policy, is_sure: bool) -> Iterator[str]:
         """Yields what there is in the table of a policy. Fails where it is not that of the second body."""
@@ -293,12 +300,9 @@ class Roots(Drawn):
                     order = (*LEVELS, "root")
                     self.assertGreaterEqual(order.index(bound.level), order.index(row.level), (bound, row, text))
                     if bound.level == row.level:
-                        # Of chains of a level, one with `own` is not preferred to one with `other`.
-                        least = min(2, PASSWORDS.index(bound.password))
-                        self.assertLessEqual(least, PASSWORDS.index(row.password), (bound, row, text))
+                        self.assertLessEqual(*map(PASSWORDS.index, (bound.password, row.password)), (bound, row, text))
                 else:
-                    wanted = bound.level, min(2, PASSWORDS.index(bound.password))
-                    self.assertEqual(wanted, (row.level, min(2, PASSWORDS.index(row.password))), (bound, row, text))
+                    self.assertEqual((bound.level, bound.password), (row.level, row.password), (bound, row, text))
         yield from (row.depends for row in most.values())
 
     def test_what_is_noted_is_bounded(self) -> None:

@@ -16,6 +16,8 @@ pub mod WayLemmas
 pub mod RootLemmas
 pub mod LoopLemmas
 pub mod FreeLemmas
+pub mod EaseLemmas
+pub mod OwnLemmas
 pub mod GroupLemmas
 pub mod RowLemmas
 pub mod ChainLemmas
@@ -32,3 +34,4 @@ pub mod NamingLemmas
 pub mod NoteLemmas
 pub mod MayLemmas
 pub mod PathLemmas
+pub mod NearLemmas

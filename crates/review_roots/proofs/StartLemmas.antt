@@ -1,5 +1,5 @@
 -- What a search begins with: the states at the goal, and the candidates that are heard; from no other does a step lead.
-use Rattle.std.proofs.Common.{◌≡◌, ◌<◌, ◌≤◌, ◌∙◌, ℕ, zero, Bool, true, false, not, cond, ◌&&◌, ◌==◌, List, [], ◌∷◌, ap, arith, refl}
+use Rattle.std.proofs.Common.{◌≡◌, ◌<◌, ◌≤◌, ◌∙◌, ℕ, zero, Bool, true, false, not, cond, ◌&&◌, ◌||◌, ◌==◌, List, [], ◌∷◌, ap, arith, refl}
 use Rattle.std.proofs.Common.{length, map, sym, subst, Option, Some, None, inl, inr, ◌⊎◌}
 use Rattle.std.specs.Prelude.{All, filter, is_some, slice_get}
 use Rattle.std.specs.List.{Contains, list_any, slice_index_or}
@@ -69,25 +69,25 @@ module _ (h : HostSteps) (q : Sought) where
       g.goal s ≡ false → IsMute g h.least s
   quiet-mute s u is none away = (
     away,
-    λ t l above. ap (λ o. is_at_least l (level_for q.counted
+    λ t l above. ap (λ o. is_at_least l (level_for q.counted s.user
         (given_between h.checked.now h.directory.now h.host.now o (slice_get h.directory.now.people t.user)
         (group_at h.groups.now t.added)))) is
         ∙ weak-level h.least
         (given_between h.checked.now h.directory.now h.host.now (Some u) (slice_get h.directory.now.people t.user)
         (group_at h.groups.now t.added)) h.listed
         (quiet-between h.checked.now h.directory.now h.host.now h.least u h.blocks.now h.tied h.listed none
-        (slice_get h.directory.now.people t.user) (group_at h.groups.now t.added)) q.counted l above,
+        (slice_get h.directory.now.people t.user) (group_at h.groups.now t.added)) q.counted l s.user above,
   )
 
   unknown-mute : (s : State) → person_of h.directory.now h.groups.now s ≡ None → g.goal s ≡ false → IsMute g h.least s
   unknown-mute s none away = (
     away,
-    λ t l above. ap (λ o. is_at_least l (level_for q.counted
+    λ t l above. ap (λ o. is_at_least l (level_for q.counted s.user
         (given_between h.checked.now h.directory.now h.host.now o (slice_get h.directory.now.people t.user)
         (group_at h.groups.now t.added)))) none
         ∙ weak-level h.least
         (given_between h.checked.now h.directory.now h.host.now None (slice_get h.directory.now.people t.user)
-        (group_at h.groups.now t.added)) h.listed (weak-nothing h.least h.listed) q.counted l above,
+        (group_at h.groups.now t.added)) h.listed (weak-nothing h.least h.listed) q.counted l s.user above,
   )
 
   silent-mute :
@@ -113,14 +113,14 @@ module _ (h : HostSteps) (q : Sought) where
       ∙ sym (ap (list_any (λ i. slice_index_or h.on.items i false)) is.strong) ∙ none) away
 
   no-step-counts :
-      (c : Candidate) → IsCandidate h c → may_count h.on.items h.blocks.now h.least q.counted c.listed.items ≡ false →
+      (c : Candidate) → IsCandidate h c → may_count h.on.items h.blocks.now h.least q.counted c.state.user c.listed.items ≡ false →
       g.goal c.state ≡ false → IsMute g h.least c.state
   no-step-counts c is none away = (
     away,
-    λ t l above. ap (λ o. is_at_least l (level_for q.counted
+    λ t l above. ap (λ o. is_at_least l (level_for q.counted c.state.user
         (given_between h.checked.now h.directory.now h.host.now o (slice_get h.directory.now.people t.user)
         (group_at h.groups.now t.added)))) is.person
-        ∙ uncounted h c is q.counted l none above (slice_get h.directory.now.people t.user) (group_at h.groups.now t.added),
+        ∙ uncounted h c is q.counted l c.state.user none above (slice_get h.directory.now.people t.user) (group_at h.groups.now t.added),
   )
 
   mute-stuck : (s : State) → IsMute g h.least s → IsStuck g h.least s
@@ -134,9 +134,9 @@ module _ (h : HostSteps) (q : Sought) where
   -- ---- No chain of the steps that count leads from a user with no chain of any steps
 
   counted-any :
-      (l : Level) (k : Counted) (a : Given) → is_at_least h.least l ≡ true → is_at_least l (level_for k a) ≡ true →
+      (l : Level) (k : Counted) (user : ℕ) (a : Given) → is_at_least h.least l ≡ true → is_at_least l (level_for k user a) ≡ true →
       is_at_least h.least a.level ≡ true
-  counted-any l k a above step = go k step
+  counted-any l k user a above step = go k step
     where
       either : (b : Bool) → is_at_least l (cond b a.level level.None) ≡ true → is_at_least h.least a.level ≡ true
       either true step = at-least-trans h.least l a.level above step
@@ -144,17 +144,18 @@ module _ (h : HostSteps) (q : Sought) where
           at-least-trans h.least level.None a.level (at-least-trans h.least l level.None above step)
           (at-least-below level.None a.level (omega arith))
 
-      go : (k : Counted) → is_at_least l (level_for k a) ≡ true → is_at_least h.least a.level ≡ true
+      go : (k : Counted) → is_at_least l (level_for k user a) ≡ true → is_at_least h.least a.level ≡ true
       go counted.Any step = at-least-trans h.least l a.level above step
       go counted.Unasked step = either a.unasked step
       go counted.Free step = either a.free step
+      go (counted.Own owner) step = either ((user == owner) || a.unasked) step
 
   any-path : (l : Level) → is_at_least h.least l ≡ true → {n : ℕ} {s : State} → Path g l n s → Path (any_steps h q.target) h.least n s
   any-path l above (here {s} c at) =
       here (All-contains (Contains (any_steps h q.target).states) h.states.now s (host-keeps h).inside c) at
   any-path l above (more {n} {s} {t} c step rest) =
       more (All-contains (Contains (any_steps h q.target).states) h.states.now s (host-keeps h).inside c)
-      (counted-any l q.counted (step_given h.checked.now h.directory.now h.host.now h.groups.now s t) above step) (any-path l above rest)
+      (counted-any l q.counted s.user (step_given h.checked.now h.directory.now h.host.now h.groups.now s t) above step) (any-path l above rest)
 
   chainless-stuck : (s : State) → HasNoPath (any_steps h q.target) h.least s → IsStuck g h.least s
   chainless-stuck s none l above n p = none n (any-path l above p)
@@ -233,7 +234,7 @@ module _ (h : HostSteps) (q : Sought) where
           inr (inr (subst (IsStuck g h.least) at (mute-stuck c.state
           (no-step-counts c (All-contains (IsCandidate h) h.candidates.now c h.covered.known inside)
           (neither ((length h.groups.now == 0) && is_at_least level.AllBut h.least)
-          (may_count h.on.items h.blocks.now h.least q.counted c.listed.items) may).1
+          (may_count h.on.items h.blocks.now h.least q.counted c.state.user c.listed.items) may).1
           (ap g.goal at ∙ away)))))
       by_candidate s c inside at away false is k may true begins =
           inr (inr (subst (IsStuck g h.least) at (mute-stuck c.state

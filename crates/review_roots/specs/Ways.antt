@@ -1,6 +1,6 @@
 -- A chain of steps to a target: its level, the row that allows its first step, and whose passwords it asks for.
 -- sudo(8), sudoers(5), "Tag_Spec": a password is asked unless NOPASSWD is in force.
-use Rattle.std.specs.Prelude.{◌≡◌, ◌⊎◌, ℕ, true, ◌==◌, if◌then◌else◌, List, [], ◌∷◌, All, Option, None, codes}
+use Rattle.std.specs.Prelude.{◌≡◌, ◌≤◌, ℕ, true, ◌==◌, if◌then◌else◌, List, [], ◌∷◌, All, Option, None, codes}
 use Rattle.std.specs.List.{Contains}
 use Rattle.review_grants.specs.declared.marks.Marks.{Marks}
 use Rattle.review_grants.specs.Depends.{joined_marks, unmarked}
@@ -13,8 +13,8 @@ use Rattle.review_roots.specs.declared.state.State.{State}
 use Rattle.review_roots.specs.declared.way.Password.{Password}
 use Rattle.review_roots.specs.declared.way.Password.TheVariants as password
 use Rattle.review_roots.specs.declared.way.Way.{Way}
-use Rattle.review_roots.specs.Sought.{any_steps, free_steps, unasked_steps, steps_of}
-use Rattle.review_roots.specs.Chains.{HasNoPath, HasPath, LeadsAlong}
+use Rattle.review_roots.specs.Sought.{any_steps, steps_of}
+use Rattle.review_roots.specs.Chains.{HasPath, LeadsAlong}
 use Rattle.review_roots.specs.Ranks.{is_at_least}
 use Rattle.review_roots.specs.States.{step_given}
 
@@ -59,9 +59,17 @@ abbrev pub marks_along : HostSteps → State → List State → Marks
 marks_along h s [] = unmarked
 marks_along h s (t ∷ ts) = joined_marks (step_on h s t).marks (marks_along h t ts)
 
--- no password is asked for, or perhaps one
-abbrev pub IsUnasked : Password → Type 0
-IsUnasked p = (p ≡ password.None) ⊎ (p ≡ password.Maybe)
+-- how much it is to be asked for: nothing, perhaps a password, one's own, another user's
+abbrev pub password_rank : Password → ℕ
+password_rank password.None = 0
+password_rank password.Maybe = 1
+password_rank password.Own = 2
+password_rank password.Other = 3
+
+-- the chain leads from the state to the target through states; each of its steps has the level or a better one
+pub record IsLeading (h : HostSteps) (target : ℕ) (l : Level) (s : State) (ts : List State) : Type 0 where
+  pub inside : All (Contains (any_steps h target).states) ts
+  pub leads : LeadsAlong (any_steps h target) l s ts
 
 -- of the steps that are sought, the chain leads from the state to the target through states, with its level, which no chain
 -- betters and which is the least asked for or a better one; the row allows the first step, and the password and the notes are
@@ -75,15 +83,14 @@ pub record IsChain (h : HostSteps) (q : Sought) (least : Level) (s : State) (w :
   pub password : w.password ≡ password_along h s.user s w.chain.items
   pub marks : w.marks ≡ marks_along h s w.chain.items
 
--- the same of all steps; where the chain may ask for a password, no chain of its level, however long, asks for none; and where it
--- asks for one whatever the command, no chain of its level has steps that all may go without
+-- the same of all steps; and no chain of its level, however long, asks for less
 pub record IsWay (h : HostSteps) (target : ℕ) (least : Level) (s : State) (w : Way) : Type 0 where
   pub inside : All (Contains (any_steps h target).states) w.chain.items
   pub leads : LeadsAlong (any_steps h target) w.level s w.chain.items
   pub best : (l : Level) → HasPath (any_steps h target) l s → is_at_least l w.level ≡ true
   pub enough : is_at_least least w.level ≡ true
   pub by : w.by ≡ first_row h s w.chain.items
-  pub free : (w.password ≡ password.None) ⊎ HasNoPath (free_steps h target) w.level s
-  pub unasked : IsUnasked w.password ⊎ HasNoPath (unasked_steps h target) w.level s
   pub password : w.password ≡ password_along h s.user s w.chain.items
   pub marks : w.marks ≡ marks_along h s w.chain.items
+  pub easiest : (ts : List State) → IsLeading h target w.level s ts
+      → password_rank w.password ≤ password_rank (password_along h s.user s ts)

@@ -1,9 +1,9 @@
 //! The search for the states that lead to a target: back from the target, level by level.
 ghost use Rattle.std.specs.Prelude.{◌≡◌, ◌<◌, ◌+◌, ◌++◌, ◌==◌, [], IfOk, OnOk, IsTrue, All, filter, length, map, not, true};
 ghost use Rattle.std.specs.Prelude.{None, Some, false};
-ghost use Rattle.review_roots.specs.Sought.{any_steps, free_steps, steps_of, unasked_steps};
+ghost use Rattle.review_roots.specs.Sought.{steps_of};
 ghost use Rattle.review_roots.specs.Body.Candidates.{states_of};
-ghost use Rattle.review_roots.specs.Body.Found.{AreChains, AreFound, AreGiven, HaveNoChain, HaveNoPath, IsCandidate, IsSearch};
+ghost use Rattle.review_roots.specs.Body.Found.{AreFound, AreGiven, HaveNoChain, HaveNoPath, IsCandidate, IsSearch};
 ghost use Rattle.review_roots.specs.Body.Found.{IsStartOf, found_by, found_there, is_left, kept_steps, may_start, reaches};
 ghost use Rattle.review_roots.specs.Body.Towards.{IsToward};
 ghost use Rattle.review_roots.specs.Ranks.{is_at_least};
@@ -14,7 +14,6 @@ use crate::Level;
 use crate::candidate::Candidate;
 use crate::given::{Counted, Given, NOTHING};
 use crate::host::HostSteps;
-use crate::starts::starts_of;
 use crate::state::State;
 use crate::toward::Toward;
 use std::alloc::{AllocError, Global};
@@ -36,25 +35,13 @@ pub(crate) struct Sought {
     pub(crate) counted: Counted,
 }
 
-/// The states from which chains lead to a target: by any steps, by steps that may go without a password, and by steps that ask for
-/// none; and where each user is among them.
-#[derive(Drop)]
-pub(crate) struct Chains {
-    pub(crate) any: Vec<Found>,
-    pub(crate) any_starts: Vec<Option<usize>>,
-    pub(crate) unasked: Vec<Found>,
-    pub(crate) unasked_starts: Vec<Option<usize>>,
-    pub(crate) free: Vec<Found>,
-    pub(crate) free_starts: Vec<Option<usize>>,
-}
-
-// A found state to which steps are sought: its index, the state, the level of the steps, and which of them count.
+/// A found state to which steps are sought: its index, the state, the level of the steps, and which of them count.
 #[derive(Clone, Copy)]
-struct Aim {
-    index: usize,
-    state: State,
-    level: Level,
-    counted: Counted,
+pub(crate) struct Aim {
+    pub(crate) index: usize,
+    pub(crate) state: State,
+    pub(crate) level: Level,
+    pub(crate) counted: Counted,
 }
 
 // Returns what the step of the candidate to the state gives, if it has the level or a better one.
@@ -78,7 +65,8 @@ fn reached(
         return None;
     }
     let given = steps.step_toward(candidate, toward);
-    if given.level_for(aim.counted).is_at_least(aim.level) {
+    let level = given.level_for(aim.counted, candidate.state.user);
+    if level.is_at_least(aim.level) {
         Some(given)
     } else {
         None
@@ -130,8 +118,9 @@ fn is_none(left: &[&Candidate]) -> bool
     }
 }
 
-// Does the same, with what steps to the aim depend on.
-fn draw_to<'c>(
+/// Moves the candidates with a step to the aim to those that are found, and returns the others. Returns `AllocError` if allocation
+/// fails.
+pub(crate) fn draw_to<'c>(
     alloc: Global,
     steps: &HostSteps<'_, '_>,
     aim: Aim,
@@ -312,8 +301,8 @@ fn is_left(
             || steps.may_count(candidate, sought.counted))
 }
 
-// Returns the candidates with which a chain may begin, and of which a step that counts may have the least level, but for the target.
-fn heard<'r>(
+/// Returns the candidates with which a chain may begin, and of which a step that counts may have the least level, but for the target.
+pub(crate) fn heard<'r>(
     alloc: Global,
     steps: &HostSteps<'r, '_>,
     sought: Sought,
@@ -360,9 +349,9 @@ fn search_levels(
     }
 }
 
-// Returns the states from which a chain of the steps that count, of the least level or a better one, leads to the target, each
-// with the best level of such a chain. A user without a start is passed over.
-fn found_of(
+/// Returns the states from which a chain of the steps that count, of the least level or a better one, leads to the target, each
+/// with the best level of such a chain. A user without a start is passed over.
+pub(crate) fn found_of(
     alloc: Global,
     steps: &HostSteps<'_, '_>,
     sought: Sought,
@@ -377,62 +366,4 @@ fn found_of(
     let left = heard(alloc, steps, sought, starts)?;
     search_levels(alloc, steps, sought, left, &mut found)?;
     Ok(found)
-}
-
-/// Returns the states from which a chain of steps of the least level, or a better one, leads to the target, each with the best
-/// level of such a chain; the same of chains whose steps may go without a password, and of chains whose steps ask for none.
-///
-/// Returns `AllocError` if allocation fails.
-pub(crate) fn search(
-    alloc: Global,
-    steps: &HostSteps<'_, '_>,
-    target: usize,
-) -> Result<Chains, AllocError>
-    ensures any { IfOk result (λ chains. AreFound (any_steps steps.now target)
-        steps.now.states.now steps.now.least chains.any.items) }
-    ensures unasked { IfOk result (λ chains. AreFound (unasked_steps steps.now target)
-        steps.now.states.now steps.now.least chains.unasked.items) }
-    ensures free { IfOk result (λ chains. AreFound (free_steps steps.now target)
-        steps.now.states.now steps.now.least chains.free.items) }
-    ensures chains { IfOk result (λ chains. AreChains steps.now chains) }
-{
-    let any = found_of(
-        alloc,
-        steps,
-        Sought {
-            target,
-            counted: Counted::Any,
-        },
-        &[],
-    )?;
-    let users = steps.directory.people().len();
-    let any_starts = starts_of(alloc, users, &any)?;
-    let unasked = found_of(
-        alloc,
-        steps,
-        Sought {
-            target,
-            counted: Counted::Unasked,
-        },
-        &any_starts,
-    )?;
-    let free = found_of(
-        alloc,
-        steps,
-        Sought {
-            target,
-            counted: Counted::Free,
-        },
-        &any_starts,
-    )?;
-    let unasked_starts = starts_of(alloc, users, &unasked)?;
-    let free_starts = starts_of(alloc, users, &free)?;
-    Ok(Chains {
-        any,
-        any_starts,
-        unasked,
-        unasked_starts,
-        free,
-        free_starts,
-    })
 }

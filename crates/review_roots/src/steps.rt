@@ -1,5 +1,5 @@
 //! What the steps of users on one host give.
-ghost use Rattle.std.specs.Prelude.{◌≡◌, ◌≤◌, ◌&&◌, IfOk, None, Some, drop, false, fold, length, true, option_copied, slice_get};
+ghost use Rattle.std.specs.Prelude.{◌≡◌, ◌≤◌, ℕ, ◌&&◌, IfOk, None, Some, drop, false, fold, length, true, option_copied, slice_get};
 ghost use Rattle.std.specs.Borrow.{Bor};
 ghost use Rattle.std.specs.List.{list_any, slice_index_or};
 ghost use Rattle.sudo_verdict.specs.Questions.{question_as};
@@ -153,18 +153,28 @@ impl<'r, 'a> HostSteps<'r, 'a> {
         may
     }
 
+    // Whether a step of the candidate that counts may have the least level.
+    fn may_reach_least(&self, candidate: &Candidate, counted: Counted) -> bool
+        ensures { result ≡ most.may_reach self.now.on.items self.now.blocks.now self.now.least
+            counted candidate.now.listed.items }
+    {
+        self.may_give(candidate)
+            .level_for(counted)
+            .is_at_least(self.least)
+    }
+
     /// Whether a step of the candidate that counts may have the least level. Of all steps that is not looked up: a block that raises
     /// and lists the candidate nearly always has it.
     pub(crate) fn may_count(&self, candidate: &Candidate, counted: Counted) -> bool
         ensures { result ≡ most.may_count self.now.on.items self.now.blocks.now self.now.least
-            counted candidate.now.listed.items }
+            counted candidate.now.state.user candidate.now.listed.items }
     {
         match counted {
             Counted::Any => true,
-            Counted::Unasked | Counted::Free => self
-                .may_give(candidate)
-                .level_for(counted)
-                .is_at_least(self.least),
+            Counted::Unasked | Counted::Free => self.may_reach_least(candidate, counted),
+            Counted::Own(owner) => {
+                candidate.state.user == owner || self.may_reach_least(candidate, Counted::Unasked)
+            }
         }
     }
 
@@ -356,8 +366,8 @@ impl<'r, 'a> HostSteps<'r, 'a> {
         requires candidate { IsCandidate self.now candidate.now }
         requires toward { IsToward self.now.checked.now self.now.directory.now self.now.groups.now
             self.now.blocks.now toward.now.state toward.now }
-        ensures { result ≡ true → (k : TheCounted) (l : TheLevel)
-            → is_at_least self.now.least l ≡ true → is_at_least l (level_for k (step_given
+        ensures { result ≡ true → (k : TheCounted) (l : TheLevel) (user : ℕ)
+            → is_at_least self.now.least l ≡ true → is_at_least l (level_for k user (step_given
             self.now.checked.now self.now.directory.now self.now.host.now self.now.groups.now
             candidate.now.state toward.now.state)) ≡ false }
     {

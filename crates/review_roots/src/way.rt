@@ -1,10 +1,10 @@
 //! A chain of steps to a target, with the row that allows its first step, and whose passwords it asks for.
-ghost use Rattle.std.specs.Prelude.{◌≡◌, ◌<◌, All, IfOk, Some, length, slice_get};
+ghost use Rattle.std.specs.Prelude.{◌≡◌, ◌<◌, ◌≤◌, false, All, IfOk, Some, length, slice_get};
 ghost use Rattle.std.specs.List.{Contains};
 ghost use Rattle.review_roots.specs.Sought.{steps_of};
 ghost use Rattle.review_roots.specs.Body.Found.{AreFound, AreGiven, PointBack, found_states};
 ghost use Rattle.review_roots.specs.Body.Passing.{HasMarks, HasPassword, HasRow, LeadsWhole};
-ghost use Rattle.review_roots.specs.Ways.{IsChain, password_name, step_password, worse};
+ghost use Rattle.review_roots.specs.Ways.{IsChain, password_name, password_rank, step_password, worse};
 ghost use Rattle.review_roots.specs.declared.level.Level.{Level as TheLevel};
 ghost use Rattle.review_roots.specs.declared.search.Found.{Found as TheFound};
 ghost use Rattle.review_roots.specs.declared.search.Sought.{Sought as TheSought};
@@ -55,6 +55,16 @@ impl Password {
             Password::Maybe => b"?",
             Password::Own => b"own",
             Password::Other => b"other",
+        }
+    }
+
+    /// Whether it is that of another user.
+    pub(crate) fn is_other(self) -> bool
+        ensures { result ≡ false → password_rank self ≤ 2 }
+    {
+        match self {
+            Password::Other => true,
+            Password::None | Password::Maybe | Password::Own => false,
         }
     }
 

@@ -1,14 +1,15 @@
 -- The states that are found to lead to a target, and what is known of those that are left.
-use Rattle.std.specs.Prelude.{◌≡◌, ◌<◌, ◌⊎◌, ◌&&◌, ◌||◌, ◌==◌, ℕ, Bool, true, false, not, if◌then◌else◌, is_some, List, All, map, slice_get}
+use Rattle.std.specs.Prelude.{◌≡◌, ◌<◌, ◌⊎◌, ◌&&◌, ◌||◌, ◌==◌, ℕ, Bool, true, false, not, if◌then◌else◌, is_some, List, All, filter, map, slice_get}
 use Rattle.std.specs.Prelude.{Option, Some, None, get_or, length, nat_lt, set, take}
 use Rattle.std.specs.List.{Contains}
 use Rattle.review_roots.specs.declared.level.Level.{Level}
 use Rattle.review_roots.specs.declared.level.Level.TheVariants as level
 use Rattle.review_roots.specs.declared.given.Counted.{Counted}
+use Rattle.review_roots.specs.declared.given.Counted.TheVariants as counted
 use Rattle.review_roots.specs.declared.host.HostSteps.{HostSteps}
 use Rattle.review_roots.specs.declared.candidate.Candidate.{Candidate}
 use Rattle.review_roots.specs.declared.search.Aim.{Aim}
-use Rattle.review_roots.specs.declared.search.Chains.{Chains}
+use Rattle.review_roots.specs.declared.chains.Chains.{Chains}
 use Rattle.review_roots.specs.declared.search.Found.{Found}
 use Rattle.review_roots.specs.declared.search.Sought.{Sought}
 use Rattle.review_roots.specs.declared.state.State.{State}
@@ -44,7 +45,7 @@ HaveNoChain h target starts =
 abbrev pub is_counted : HostSteps → Counted → Candidate → Bool
 is_counted h k c =
     ((length h.groups.now == 0) && is_at_least level.AllBut h.least)
-    || may_count h.on.items h.blocks.now h.least k c.listed.items
+    || may_count h.on.items h.blocks.now h.least k c.state.user c.listed.items
 
 -- a chain may begin with the candidate; a block on the host that raises lists it, which is not the target; and where many are left, a
 -- step of it that counts may have the least level
@@ -110,6 +111,29 @@ abbrev pub IsFoundAt : List Found → ℕ → Option ℕ → Type 0
 IsFoundAt found user None = All (λ f. is_start user f.state ≡ false) found
 IsFoundAt found user (Some i) = (f : Found) × ((slice_get found i ≡ Some f) × (is_start user f.state ≡ true))
 
+-- all steps towards the target
+abbrev pub any_sought : ℕ → Sought
+any_sought target = record { target = target; counted = counted.Any }
+
+-- of the candidates with which a chain may begin, the state is among those that are near, or none of its steps, of any kind, leads to
+-- what is found
+abbrev pub AreNearTo : HostSteps → ℕ → List (Option ℕ) → List Found → List Found → Type 0
+AreNearTo h target starts found near =
+    All (λ c. Contains (found_states near) c.state
+    ⊎ All (λ f. is_at_least h.least (step_on h c.state f.state).level ≡ false) found)
+    (filter (is_left h (any_sought target) starts) h.candidates.now)
+
+-- the marks with that of a further user
+abbrev pub marked : List Bool → ℕ → List Bool
+marked marks user = if nat_lt user (length marks) then set marks user true else marks
+
+-- of the candidates with which a chain may begin, the user is marked, or none of its steps, of any kind, leads to what is found
+abbrev pub AreNear : HostSteps → ℕ → List (Option ℕ) → List Found → List Bool → Type 0
+AreNear h target starts found near =
+    All (λ c. (get_or near c.state.user true ≡ true)
+    ⊎ All (λ f. is_at_least h.least (step_on h c.state f.state).level ≡ false) found)
+    (filter (is_left h (any_sought target) starts) h.candidates.now)
+
 -- for each user, the index of its found state without an added group, if it is found
 abbrev pub AreStarts : List Found → List (Option ℕ) → Type 0
 AreStarts found starts = (user : ℕ) → user < length starts → IsFoundAt found user (get_or starts user None)
@@ -141,12 +165,13 @@ pub record AreChains (h : HostSteps) (c : Chains) : Type 0 where
   pub free_starts : AreStarts c.free.items c.free_starts.items
   pub free_users : length c.free_starts.items ≡ length h.directory.now.people
 
--- the chains to a target, by any steps, by steps that may go without a password, and by steps that ask for none
-pub record ChainsLead (h : HostSteps) (target : ℕ) (l : Level) (c : Chains) : Type 0 where
-  pub level : is_at_least level.Listed l ≡ true
-  pub any : AreFound (any_steps h target) h.states.now l c.any.items
-  pub unasked : AreFound (unasked_steps h target) h.states.now l c.unasked.items
-  pub free : AreFound (free_steps h target) h.states.now l c.free.items
+-- the chains to a target, by any steps, by steps that may go without a password, and by steps that ask for none; and the users from
+-- which a step of any kind leads to where one begins whose steps may go without
+pub record ChainsLead (h : HostSteps) (target : ℕ) (c : Chains) : Type 0 where
+  pub any : AreFound (any_steps h target) h.states.now h.least c.any.items
+  pub unasked : AreFound (unasked_steps h target) h.states.now h.least c.unasked.items
+  pub free : AreFound (free_steps h target) h.states.now h.least c.free.items
+  pub near : AreNear h target c.any_starts.items c.unasked.items c.near.items
 
 -- the same of a found state with the level or a better one; without an index, one without an added group has a worse level
 abbrev pub IsGoodAt : List Found → ℕ → Level → Option ℕ → Type 0
@@ -160,6 +185,11 @@ IsGoodAt found user l (Some i) =
 abbrev pub IsAsked : Chains → ℕ → ℕ → Type 0
 IsAsked c user index =
     (f : Found) → slice_get c.any.items index ≡ Some f → IsGoodAt c.free.items user f.level None
+
+-- and none has steps that all may go without one
+abbrev pub IsEachAsked : Chains → ℕ → ℕ → Type 0
+IsEachAsked c user index =
+    (f : Found) → slice_get c.any.items index ≡ Some f → IsGoodAt c.free.items user f.level None × IsGoodAt c.unasked.items user f.level None
 
 -- ---- While a search goes on: what is found, and the states that are left
 
@@ -192,7 +222,8 @@ IsCandidate h c = Qualifies h.checked.now h.directory.now h.groups.now h.least h
 -- the step of the candidate to the aim has its level or a better one
 abbrev pub reaches : HostSteps → Aim → Candidate → Bool
 reaches h aim c =
-    is_at_least aim.level (level_for aim.counted (step_given h.checked.now h.directory.now h.host.now h.groups.now c.state aim.state))
+    is_at_least aim.level
+    (level_for aim.counted c.state.user (step_given h.checked.now h.directory.now h.host.now h.groups.now c.state aim.state))
 
 abbrev pub found_by : HostSteps → Aim → Candidate → Found
 found_by h aim c = record { state = c.state; level = aim.level; next = Some aim.index; given = step_on h c.state aim.state }

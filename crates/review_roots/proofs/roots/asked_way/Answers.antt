@@ -1,7 +1,9 @@
-use Rattle.std.proofs.Common.{Some, None, refl, subst}
+use Rattle.std.proofs.Common.{List, Some, None, subst, sym}
+use Rattle.std.proofs.lemmas.Option.{slice_get_within}
 use Rattle.std.proofs.lemmas.Result.{IfOk-weaker}
-use Rattle.review_roots.specs.Body.Found.{IsGoodAt}
-use Rattle.review_roots.proofs.FreeLemmas.{best-any, best-unasked}
+use Rattle.review_roots.specs.declared.search.Found.{Found}
+use Rattle.review_roots.specs.Body.Found.{AreGiven, IsGoodAt}
+use Rattle.review_roots.proofs.FreeLemmas.{best-unasked, each-there}
 use Rattle.review_roots.proofs.roots.asked_way.Goals as goal
 
 pub returns-in-Some : goal.returns-in-Some
@@ -9,19 +11,27 @@ returns-in-Some c =
     let user = c.args.user in
     let a = c.index.result.now in
     IfOk-weaker c.way_of.result _ _
-    (λ w is least lead asked.
-    best-unasked c.args.steps.now c.args.target least c.args.chains.now lead user c.args.index a c.index.ensures c.requires.start w
-    c.deref-in-Some.result.now c.in-Some.index is asked c.deref-in-Some.ensures.value
+    (λ w is.
+    best-unasked c.args.steps.now c.args.target c.args.chains.now c.requires.lead user c.args.index a c.index.ensures c.requires.start w
+    c.deref-in-Some.result.now c.in-Some.index is c.requires.asked c.deref-in-Some.ensures.value
     (subst (λ xs. IsGoodAt xs user a.level (Some c.in-Some.index)) c.deref.ensures.value c.in-Some.ensures))
     c.way_of.ensures
 
-pub returns-in-None : goal.returns-in-None
-returns-in-None c =
+pub asking_way-requires-clause-asked : goal.asking_way-requires-clause-asked
+asking_way-requires-clause-asked c =
     let user = c.args.user in
     let a = c.index.result.now in
-    IfOk-weaker c.way_of-in-None.result _ _
-    (λ w is least lead asked.
-    best-any c.args.steps.now c.args.target least c.args.chains.now lead user c.args.index a c.index.ensures c.requires.start w
-    c.deref-in-None.result.now c.args.index is asked refl c.deref-in-None.ensures.value
-    (subst (λ xs. IsGoodAt xs user a.level None) c.deref.ensures.value c.in-None.ensures))
-    c.way_of-in-None.ensures
+    each-there c.args.steps.now c.args.target c.args.chains.now c.requires.lead user c.args.index a c.index.ensures c.requires.start
+    c.requires.asked (subst (λ xs. IsGoodAt xs user a.level None) c.deref.ensures.value c.in-None.ensures)
+
+pub way_of-requires-clause-given : goal.way_of-requires-clause-given
+way_of-requires-clause-given c =
+    subst (AreGiven c.args.steps.now) (sym c.deref-in-Some.ensures.value) c.requires.chains.unasked_given
+
+pub way_of-requires-clause-inside : goal.way_of-requires-clause-inside
+way_of-requires-clause-inside c =
+    let user = c.args.user in
+    let a = c.index.result.now in
+    let good = subst (λ (xs : List Found). IsGoodAt xs user a.level (Some c.in-Some.index)) c.deref.ensures.value c.in-Some.ensures in
+    let good = subst (λ (xs : List Found). IsGoodAt xs user a.level (Some c.in-Some.index)) (sym c.deref-in-Some.ensures.value) good in
+    slice_get_within c.deref-in-Some.result.now c.in-Some.index good.0 good.1.0

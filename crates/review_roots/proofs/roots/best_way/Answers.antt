@@ -9,19 +9,15 @@ returns-in-Some c =
     let user = c.args.user in
     let a = c.index.result.now in
     IfOk-weaker c.way_of.result _ _
-    (λ w is least lead.
-    best-free c.args.steps.now c.args.target least c.args.chains.now lead user c.args.index a c.index.ensures c.requires.start w
+    (λ w is.
+    best-free c.args.steps.now c.args.target c.args.chains.now c.requires.lead user c.args.index a c.index.ensures c.requires.start w
     c.deref-in-Some.result.now c.in-Some.index is c.deref-in-Some.ensures.value
     (subst (λ xs. IsGoodAt xs user a.level (Some c.in-Some.index)) c.deref.ensures.value c.in-Some.ensures))
     c.way_of.ensures
 
-pub returns-in-None : goal.returns-in-None
-returns-in-None c =
+pub asked_way-requires-clause-asked : goal.asked_way-requires-clause-asked
+asked_way-requires-clause-asked c =
     let user = c.args.user in
     let a = c.index.result.now in
-    IfOk-weaker c.asked_way.result _ _
-    (λ w way least lead.
-    way least lead
-    (asked-at c.args.steps.now c.args.target least c.args.chains.now lead user c.args.index a c.index.ensures c.requires.start
-    (subst (λ xs. IsGoodAt xs user a.level None) c.deref.ensures.value c.in-None.ensures)))
-    c.asked_way.ensures
+    asked-at c.args.steps.now c.args.target c.args.chains.now c.requires.lead user c.args.index a c.index.ensures c.requires.start
+    (subst (λ xs. IsGoodAt xs user a.level None) c.deref.ensures.value c.in-None.ensures)

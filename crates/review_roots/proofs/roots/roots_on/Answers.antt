@@ -2,7 +2,6 @@ use Rattle.std.proofs.Common.{◌<◌, ◌∙◌, ◌+◌, List, Vec, Global, ap
 use Rattle.std.specs.Prelude.{MatchOption}
 use Rattle.sudo_match.specs.declared.people.Person.{Person}
 use Rattle.review_roots.specs.declared.roots.Root.{Root}
-use Rattle.review_roots.specs.Body.Found.{ChainsLead}
 use Rattle.review_roots.specs.Roots.{IsNoRoot, IsRootAt}
 use Rattle.review_roots.proofs.RootLemmas.{AreRootsBefore, roots-more, roots-same}
 use Rattle.review_roots.proofs.roots.roots_on.Goals as goal
@@ -16,13 +15,7 @@ loop-user-preserved c =
     let n = c.loop-user.user in
     let less : n < length h.directory.now.people =
     subst (λ (xs : List Person). n < length xs) c.people-user-end.ensures c.loop-user-test.true in
-    let lead : ChainsLead h target least c.in_ok-chains.chains = record {
-      level = h.listed;
-      any = c.in_ok-chains.ensures.any;
-      unasked = c.in_ok-chains.ensures.unasked;
-      free = c.in_ok-chains.ensures.free;
-    } in
-    let is = c.in_ok-root.ensures least lead in
+    let is = c.in_ok-root.ensures in
     elim c.match-branch-3.branch [
       | in-Some+in_ok-push w ↦
           (let root = subst (λ o. MatchOption o (IsNoRoot h target least n) (IsRootAt h target least n)) w.in-Some.is is in

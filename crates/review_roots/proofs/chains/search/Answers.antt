@@ -3,7 +3,7 @@ use Rattle.review_roots.specs.Body.Found.{AreStarts, HaveNoChain}
 use Rattle.review_roots.specs.Sought.{any_steps, free_steps, unasked_steps}
 use Rattle.review_roots.proofs.PathLemmas.{starts-chainless}
 use Rattle.review_roots.proofs.SearchLemmas.{point-back}
-use Rattle.review_roots.proofs.search.search.Goals as goal
+use Rattle.review_roots.proofs.chains.search.Goals as goal
 
 pub found_of-requires-2 : goal.found_of-requires-2
 found_of-requires-2 c =

@@ -1,0 +1,188 @@
+-- Users that are one step from what is found, aim by aim, and their marks.
+use Rattle.std.proofs.Common.{◌≡◌, ◌<◌, ◌≤◌, ◌∙◌, ◌+◌, ◌⊎◌, ℕ, Bool, true, false, not, cond, List, ◌++◌, ap, arith, get_or, length}
+use Rattle.std.proofs.Common.{Option, inl, inr, map, refl, set, subst, sym, take}
+use Rattle.std.specs.Prelude.{All, filter, nat_lt}
+use Rattle.std.specs.List.{Contains}
+use Rattle.std.proofs.lemmas.Bool.{cases_lt, lt-ltb, ltb-true, not-true}
+use Rattle.std.proofs.lemmas.List.{get_or-set_other, get_or-set_same, get_or_past, length-set, map-append, take_all}
+use Rattle.std.proofs.lemmas.List.Elements.{All-contains, All-contains_itself, All-filter, All-push, All-weaker, filter_passes}
+use Rattle.std.proofs.lemmas.List.Elements.{Contains-append_left, Contains-append_right}
+use Rattle.review_roots.specs.declared.candidate.Candidate.{Candidate}
+use Rattle.review_roots.specs.declared.given.Counted.TheVariants as counted
+use Rattle.review_roots.specs.declared.host.HostSteps.{HostSteps}
+use Rattle.review_roots.specs.declared.search.Aim.{Aim}
+use Rattle.review_roots.specs.declared.search.Found.{Found}
+use Rattle.review_roots.specs.declared.state.State.{State}
+use Rattle.review_roots.specs.Body.Found.{AreNear, AreNearTo, IsCandidate, any_sought, found_by, found_states, is_left, marked, reaches}
+use Rattle.review_roots.specs.Ranks.{is_at_least}
+use Rattle.review_roots.specs.Ways.{step_on}
+use Rattle.review_roots.proofs.ListSteps.{take-more}
+use Rattle.review_roots.proofs.LoopLemmas.{same-there}
+use Rattle.review_roots.proofs.SearchLemmas.{both-all, from-map, in-filter, to-map}
+
+-- ---- Marks
+
+not-less : (a b : ℕ) → nat_lt a b ≡ false → b ≤ a
+not-less a b e = go (cases_lt a b)
+  where
+    go : (a < b) ⊎ (b ≤ a) → b ≤ a
+    go (inl less) = absurd (let is = lt-ltb a b less in let bad : true ≡ false = sym is ∙ e in cc)
+    go (inr most) = most
+
+pub marked-itself : (marks : List Bool) (user : ℕ) → get_or (marked marks user) user true ≡ true
+marked-itself marks user = go (nat_lt user (length marks)) refl
+  where
+    go : (b : Bool) → nat_lt user (length marks) ≡ b → get_or (cond b (set marks user true) marks) user true ≡ true
+    go true e = get_or-set_same marks user true true (ltb-true user (length marks) e)
+    go false e = get_or_past marks user true (not-less user (length marks) e)
+
+pub marked-more : (marks : List Bool) (user other : ℕ) → get_or marks other true ≡ true → get_or (marked marks user) other true ≡ true
+marked-more marks user other was = at (cases_lt other user) (cases_lt user other)
+  where
+    away : (other ≡ user → ⊥) → (b : Bool) → get_or (cond b (set marks user true) marks) other true ≡ true
+    away apart true = get_or-set_other marks user other true true apart ∙ was
+    away apart false = was
+
+    at : (other < user) ⊎ (user ≤ other) → (user < other) ⊎ (other ≤ user) → get_or (marked marks user) other true ≡ true
+    at (inl l) m = away (λ e. absurd (omega (arith, l, e))) (nat_lt user (length marks))
+    at (inr l) (inl m) = away (λ e. absurd (omega (arith, m, e))) (nat_lt user (length marks))
+    at (inr l) (inr m) =
+        let same : user ≡ other = omega (arith, l, m) in
+        subst (λ u. get_or (marked marks user) u true ≡ true) same (marked-itself marks user)
+
+abbrev pub AreMarked : List Bool → List Found → Type 0
+AreMarked marks found = All (λ f. get_or marks f.state.user true ≡ true) found
+
+pub marked-length : (marks : List Bool) (user : ℕ) → length (marked marks user) ≡ length marks
+marked-length marks user = go (nat_lt user (length marks))
+  where
+    go : (b : Bool) → length (cond b (set marks user true) marks) ≡ length marks
+    go true = length-set marks user true
+    go false = refl
+
+pub mark-next :
+    (marks new : List Bool) (found : List Found) (n : ℕ) (d : Found) → n < length found →
+    new ≡ marked marks (get_or found n d).state.user → AreMarked marks (take n found) → AreMarked new (take (n + 1) found)
+mark-next marks new found n d within more so_far =
+    let f = get_or found n d in
+    let is : f ≡ get_or found n f = same-there found n d f within in
+    subst (AreMarked new) (sym (take-more found n f within is))
+    (All-push (λ f. get_or new f.state.user true ≡ true) (take n found) f
+    (All-weaker (λ f. get_or marks f.state.user true ≡ true) (λ f. get_or new f.state.user true ≡ true)
+    (λ g was. ap (λ xs. get_or xs g.state.user true) more ∙ marked-more marks f.state.user g.state.user was) (take n found) so_far)
+    (ap (λ xs. get_or xs f.state.user true) more ∙ marked-itself marks f.state.user))
+
+-- where each state that is near has its user marked, the users are
+pub near-marked :
+    (h : HostSteps) (target : ℕ) (starts : List (Option ℕ)) (found near : List Found) (marks : List Bool) → AreNearTo h target starts found near →
+    AreMarked marks near → AreNear h target starts found marks
+near-marked h target starts found near marks are marked_all =
+    All-weaker Near Marked (λ c is. go c is) (filter (is_left h (any_sought target) starts) h.candidates.now) are
+  where
+    Near : Candidate → Type 0
+    Near c = Contains (found_states near) c.state ⊎ All (λ f. is_at_least h.least (step_on h c.state f.state).level ≡ false) found
+
+    Marked : Candidate → Type 0
+    Marked c = (get_or marks c.state.user true ≡ true) ⊎ All (λ f. is_at_least h.least (step_on h c.state f.state).level ≡ false) found
+
+    go : (c : Candidate) → Near c → Marked c
+    go c (inl inside) =
+        let f = from-map (λ (f : Found). f.state) near c.state inside in
+        inl (ap (λ (s : State). get_or marks s.user true) (sym f.2)
+        ∙ All-contains (λ f. get_or marks f.state.user true ≡ true) near f.0 marked_all f.1)
+    go c (inr none) = inr none
+
+-- ---- One aim
+
+abbrev pub AreParted : List Candidate → List Found → List Candidate → Type 0
+AreParted all near left = All (λ c. Contains (found_states near) c.state ⊎ Contains left c) all
+
+abbrev pub AreFar : HostSteps → List Found → List Candidate → Type 0
+AreFar h found left = All (λ c. All (λ f. is_at_least h.least (step_on h c.state f.state).level ≡ false) found) left
+
+pub parted-first : (all left : List Candidate) (near : List Found) → left ≡ all → AreParted all near left
+parted-first all left near is =
+    All-weaker (Contains all) (λ c. Contains (found_states near) c.state ⊎ Contains left c) (λ c inside. inr (subst (λ xs. Contains xs c)
+    (sym is) inside)) all (All-contains_itself all)
+
+module _
+    (h : HostSteps) (n : ℕ) (s : State) (near new : List Found) (left kept : List Candidate)
+    (finds : new ≡ near ++ map (found_by h (record { index = n; state = s; level = h.least; counted = counted.Any }))
+    (filter (reaches h (record { index = n; state = s; level = h.least; counted = counted.Any })) left))
+    (keeps : kept ≡ filter (λ c. not (reaches h (record { index = n; state = s; level = h.least; counted = counted.Any }) c)) left)
+  where
+    abbrev aim : Aim
+    aim = record { index = n; state = s; level = h.least; counted = counted.Any }
+
+    abbrev more : List Found
+    more = map (found_by h aim) (filter (reaches h aim) left)
+
+    pub parted-more : (all : List Candidate) → AreParted all near left → AreParted all new kept
+    parted-more all so_far =
+        subst (λ xs. AreParted all xs kept) (sym finds)
+        (subst (AreParted all (near ++ more)) (sym keeps)
+        (All-weaker (λ c. Contains (found_states near) c.state ⊎ Contains left c)
+        (λ c. Contains (found_states (near ++ more)) c.state ⊎ Contains (filter (λ c. not (reaches h aim c)) left) c) one all so_far))
+      where
+        states : found_states near ++ found_states more ≡ found_states (near ++ more)
+        states = sym (map-append (λ (f : Found). f.state) near more)
+
+        one : (c : Candidate) → Contains (found_states near) c.state ⊎ Contains left c
+            → Contains (found_states (near ++ more)) c.state ⊎ Contains (filter (λ c. not (reaches h aim c)) left) c
+        one c (inl inside) =
+            inl (subst (λ xs. Contains xs c.state) states (Contains-append_left (found_states near) (found_states more) c.state inside))
+        one c (inr inside) = go (reaches h aim c) refl
+          where
+            go : (b : Bool) → reaches h aim c ≡ b
+                → Contains (found_states (near ++ more)) c.state ⊎ Contains (filter (λ c. not (reaches h aim c)) left) c
+            go true e =
+                inl (subst (λ xs. Contains xs c.state) states
+                (Contains-append_right (found_states near) (found_states more) c.state
+                (to-map (λ (f : Found). f.state) more (found_by h aim c)
+                (to-map (found_by h aim) (filter (reaches h aim) left) c (in-filter (reaches h aim) left c inside e)))))
+            go false e = inr (in-filter (λ c. not (reaches h aim c)) left c inside (ap not e))
+
+    pub far-more :
+        (found : List Found) (d : Found) → n < length found → (get_or found n d).state ≡ s → AreFar h (take n found) left →
+        AreFar h (take (n + 1) found) kept
+    far-more found d within at so_far =
+        subst (AreFar h (take (n + 1) found)) (sym keeps)
+        (All-weaker (λ c. All (λ f. is_at_least h.least (step_on h c.state f.state).level ≡ false) (take n found)
+        × (not (reaches h aim c) ≡ true))
+        (λ c. All (λ f. is_at_least h.least (step_on h c.state f.state).level ≡ false) (take (n + 1) found)) one
+        (filter (λ c. not (reaches h aim c)) left)
+        (both-all (λ c. All (λ f. is_at_least h.least (step_on h c.state f.state).level ≡ false) (take n found))
+        (λ c. not (reaches h aim c) ≡ true) (filter (λ c. not (reaches h aim c)) left)
+        (All-filter (λ c. not (reaches h aim c))
+        (λ c. All (λ f. is_at_least h.least (step_on h c.state f.state).level ≡ false) (take n found)) left so_far)
+        (filter_passes (λ c. not (reaches h aim c)) left)))
+      where
+        f : Found
+        f = get_or found n d
+
+        one : (c : Candidate) → All (λ f. is_at_least h.least (step_on h c.state f.state).level ≡ false) (take n found)
+            × (not (reaches h aim c) ≡ true) → All (λ f. is_at_least h.least (step_on h c.state f.state).level ≡ false) (take (n + 1) found)
+        one c both =
+            subst (All (λ f. is_at_least h.least (step_on h c.state f.state).level ≡ false)) (sym (take-more found n f within (same-there found n d f within)))
+            (All-push (λ f. is_at_least h.least (step_on h c.state f.state).level ≡ false) (take n found) f both.0
+            (ap (λ t. is_at_least h.least (step_on h c.state t).level) at ∙ not-true (reaches h aim c) both.1))
+
+    pub near-candidates : All (IsCandidate h) left → All (IsCandidate h) kept
+    near-candidates all = subst (All (IsCandidate h)) (sym keeps) (All-filter (λ c. not (reaches h aim c)) (IsCandidate h) left all)
+
+-- after the last aim
+pub near-all :
+    (h : HostSteps) (target : ℕ) (starts : List (Option ℕ)) (found near : List Found) (left : List Candidate) (n : ℕ) → length found ≤ n →
+    AreParted (filter (is_left h (any_sought target) starts) h.candidates.now) near left → AreFar h (take n found) left →
+    AreNearTo h target starts found near
+near-all h target starts found near left n all parted far =
+    All-weaker (λ c. Contains (found_states near) c.state ⊎ Contains left c)
+    (λ c. Contains (found_states near) c.state ⊎ All (λ f. is_at_least h.least (step_on h c.state f.state).level ≡ false) found) go
+    (filter (is_left h (any_sought target) starts) h.candidates.now) parted
+  where
+    go : (c : Candidate) → Contains (found_states near) c.state ⊎ Contains left c
+        → Contains (found_states near) c.state ⊎ All (λ f. is_at_least h.least (step_on h c.state f.state).level ≡ false) found
+    go c (inl inside) = inl inside
+    go c (inr inside) =
+        inr (subst (All (λ f. is_at_least h.least (step_on h c.state f.state).level ≡ false)) (take_all n found all)
+        (All-contains (λ c. All (λ f. is_at_least h.least (step_on h c.state f.state).level ≡ false) (take n found)) left c far inside))

@@ -1,0 +1,153 @@
+-- A chain that asks for no other user's password needs a step of the user, of any kind, to where a chain begins whose steps may all go
+-- without one.
+use Rattle.std.proofs.Common.{◌≡◌, ◌∙◌, ◌⊎◌, ◌||◌, ◌==◌, ℕ, zero, suc, Bool, true, false, cond, List, ap, inl, inr, refl, sym}
+use Rattle.std.proofs.Common.{Option, None, get_or, map}
+use Rattle.std.specs.Prelude.{All, filter}
+use Rattle.std.specs.List.{Contains}
+use Rattle.std.proofs.lemmas.Bool.{eqb-true}
+use Rattle.std.proofs.lemmas.List.Elements.{All-contains, filter_passes}
+use Rattle.review_roots.specs.declared.candidate.Candidate.{Candidate}
+use Rattle.review_roots.specs.declared.given.Counted.TheVariants as counted
+use Rattle.review_roots.specs.declared.host.HostSteps.{HostSteps}
+use Rattle.review_roots.specs.declared.level.Level.{Level}
+use Rattle.review_roots.specs.declared.level.Level.TheVariants as level
+use Rattle.review_roots.specs.declared.search.Found.{Found}
+use Rattle.review_roots.specs.declared.search.Sought.{Sought}
+use Rattle.review_roots.specs.declared.state.State.{State}
+use Rattle.review_roots.specs.Body.Candidates.{states_of}
+use Rattle.review_roots.specs.Body.Found.{AreFound, AreNear, HaveNoChain, IsStuck, any_sought, found_states, found_there, is_left, kept_steps}
+use Rattle.review_roots.specs.Chains.{HasNoPath, HasPath, Path, here, more}
+use Rattle.review_roots.specs.Ranks.{is_at_least}
+use Rattle.review_roots.specs.Sought.{own_steps, unasked_steps}
+use Rattle.review_roots.specs.States.{state_with}
+use Rattle.review_roots.specs.Ways.{step_on}
+use Rattle.review_roots.proofs.EaseLemmas.{counted-step}
+use Rattle.review_roots.proofs.KeptLemmas.{host-keeps}
+use Rattle.review_roots.proofs.PathLemmas.{itself, kept-path, plain-path}
+use Rattle.review_roots.proofs.SearchLemmas.{at-least-trans, from-map, path-state, path-weaker}
+use Rattle.review_roots.proofs.StartLemmas.{start-of}
+
+not-both : (b : Bool) → b ≡ true → b ≡ false → ⊥
+not-both b e f = let bad : true ≡ false = sym e ∙ f in cc
+
+module _ (h : HostSteps) (target user : ℕ) where
+  abbrev any_q : Sought
+  any_q = any_sought target
+
+  abbrev unasked_q : Sought
+  unasked_q = record { target = target; counted = counted.Unasked }
+
+  abbrev own_q : Sought
+  own_q = record { target = target; counted = counted.Own user }
+
+  -- a step of the user, of any kind, to a state from which a chain leads whose steps may all go without a password
+  record IsTurn (l : Level) (x y : State) : Type 0 where
+    inside : Contains h.states.now x
+    own : x.user ≡ user
+    step : is_at_least l (step_on h x y).level ≡ true
+    path : HasPath (kept_steps h unasked_q) l y
+
+  own-split :
+      (l : Level) → is_at_least level.Listed l ≡ true → {n : ℕ} {s : State} → Path (kept_steps h own_q) l n s →
+      HasPath (kept_steps h unasked_q) l s ⊎ ((x : State) × ((y : State) × IsTurn l x y))
+  own-split l listed (here {s} c at) = inl (zero, here c at)
+  own-split l listed (more {n} {s} {t} c step rest) = go (own-split l listed rest) (s.user == user) refl
+    where
+      go : HasPath (kept_steps h unasked_q) l t ⊎ ((x : State) × ((y : State) × IsTurn l x y)) → (b : Bool) → (s.user == user) ≡ b →
+          HasPath (kept_steps h unasked_q) l s ⊎ ((x : State) × ((y : State) × IsTurn l x y))
+      go (inr turn) b e = inr turn
+      go (inl path) true e = inr (
+        s,
+        (
+          t,
+          record {
+            inside = c;
+            own = eqb-true s.user user e;
+            step = (counted-step (counted.Own user) l s.user (step_on h s t) listed step).1;
+            path = path;
+          },
+        ),
+      )
+      go (inl path) false e = inl (
+        suc path.0,
+        more c (sym (ap (λ b. is_at_least l (cond (b || (step_on h s t).unasked) (step_on h s t).level level.None)) e) ∙ step) path.1,
+      )
+
+  unasked-any : (l : Level) → is_at_least level.Listed l ≡ true → {n : ℕ} {s : State} → Path (kept_steps h unasked_q) l n s
+      → Path (kept_steps h any_q) l n s
+  unasked-any l listed (here {s} c at) = here c at
+  unasked-any l listed (more {n} {s} {t} c step rest) =
+      more c (counted-step counted.Unasked l s.user (step_on h s t) listed step).1 (unasked-any l listed rest)
+
+  module _
+      (starts : List (Option ℕ)) (found : List Found) (near : List Bool) (chainless : HaveNoChain h target starts)
+      (are : AreFound (unasked_steps h target) h.states.now h.least found) (is : AreNear h target starts found near)
+      (far : get_or near user true ≡ false) (away : user ≡ target → ⊥) (l : Level) (enough : is_at_least h.least l ≡ true)
+    where
+      listed : is_at_least level.Listed l ≡ true
+      listed = at-least-trans level.Listed h.least l h.listed enough
+
+      -- where a chain begins whose steps may go without a password is found
+      is-found : (y : State) → HasPath (kept_steps h unasked_q) l y → Contains (found_states found) y
+      is-found y path = go (are.complete y (path-state (kept_steps h unasked_q) l path.1))
+        where
+          go : Contains (found_states found) y ⊎ HasNoPath (unasked_steps h target) h.least y → Contains (found_states found) y
+          go (inl there) = there
+          go (inr none) = absurd (none path.0 (path-weaker (unasked_steps h target) h.least l enough path.0 y
+              (plain-path h unasked_q h.faultless (host-keeps h) l path.1)))
+
+      abbrev goals : List Found
+      goals = map found_there (filter (λ s. s.user == target) h.states.now)
+
+      abbrev left : List Candidate
+      left = filter (is_left h any_q starts) h.candidates.now
+
+      no-turn : (x y : State) → IsTurn l x y → ⊥
+      no-turn x y turn =
+          go (All-contains (λ s. Contains (found_states goals) s ⊎ (Contains (states_of left) s ⊎ IsStuck (kept_steps h any_q) h.least s))
+          h.states.now x (start-of h any_q starts goals left chainless refl refl).covered turn.inside)
+        where
+          near-one : (c : Candidate) → Contains left c → c.state ≡ x → ⊥
+          near-one c inside at =
+              which (All-contains (λ (c : Candidate). (get_or near c.state.user true ≡ true)
+              ⊎ All (λ f. is_at_least h.least (step_on h c.state f.state).level ≡ false) found) left c is inside)
+            where
+              which : (get_or near c.state.user true ≡ true)
+                  ⊎ All (λ f. is_at_least h.least (step_on h c.state f.state).level ≡ false) found → ⊥
+              which (inl marks) =
+                  not-both (get_or near user true)
+                  (ap (λ u. get_or near u true) (sym (ap (λ (s : State). s.user) at ∙ turn.own)) ∙ marks) far
+              which (inr none) =
+                  let f = from-map (λ (f : Found). f.state) found y (is-found y turn.path) in
+                  not-both (is_at_least h.least (step_on h c.state f.0.state).level)
+                  (ap (λ s. is_at_least h.least (step_on h s f.0.state).level) at
+                  ∙ ap (λ s. is_at_least h.least (step_on h x s).level) f.2
+                  ∙ at-least-trans h.least l (step_on h x y).level enough turn.step)
+                  (All-contains (λ f. is_at_least h.least (step_on h c.state f.state).level ≡ false) found f.0 none f.1)
+
+          at-goal : (f : Found) → Contains goals f → f.state ≡ x → ⊥
+          at-goal f inside at =
+              let s = from-map found_there (filter (λ s. s.user == target) h.states.now) f inside in
+              away (sym turn.own ∙ ap (λ (s : State). s.user) (sym (ap (λ (f : Found). f.state) s.2 ∙ at))
+              ∙ eqb-true s.0.user target
+              (All-contains (λ s. (s.user == target) ≡ true) (filter (λ s. s.user == target) h.states.now) s.0
+              (filter_passes (λ s. s.user == target) h.states.now) s.1))
+
+          go : Contains (found_states goals) x ⊎ (Contains (states_of left) x ⊎ IsStuck (kept_steps h any_q) h.least x) → ⊥
+          go (inl goal) = let f = from-map (λ (f : Found). f.state) goals x goal in at-goal f.0 f.1 f.2
+          go (inr (inl there)) = let c = from-map (λ (c : Candidate). c.state) left x there in near-one c.0 c.1 c.2
+          go (inr (inr stuck)) =
+              stuck l enough (suc turn.path.0) (more turn.inside turn.step (unasked-any l listed turn.path.1))
+
+      -- then no chain of the level asks for nobody else's
+      pub own-none :
+          Contains h.states.now (state_with None user) → HasNoPath (unasked_steps h target) l (state_with None user) →
+          HasNoPath (own_steps h target user) l (state_with None user)
+      own-none kept none n p =
+          let path = kept-path h own_q h.faultless (host-keeps h) l p (state_with None user) kept
+          (itself h own_q h.faultless (host-keeps h) (state_with None user)) in
+          go (own-split l listed path.1)
+        where
+          go : HasPath (kept_steps h unasked_q) l (state_with None user) ⊎ ((x : State) × ((y : State) × IsTurn l x y)) → ⊥
+          go (inl unasked) = none unasked.0 (plain-path h unasked_q h.faultless (host-keeps h) l unasked.1)
+          go (inr turn) = no-turn turn.0 turn.1.0 turn.1.1

@@ -1,0 +1,101 @@
+//! Which users are one step, of any kind, from a chain whose steps may all go without a password: from no other user does a chain lead
+//! that asks for nobody else's.
+ghost use Rattle.std.specs.Prelude.{◌≡◌, All, IfOk, get_or, length, true};
+ghost use Rattle.review_roots.specs.Body.Found.{AreNear, AreNearTo, marked};
+
+use crate::given::Counted;
+use crate::host::HostSteps;
+use crate::search::{Aim, Found, Sought, draw_to, heard};
+use std::alloc::{AllocError, Global};
+
+// Returns the states of the candidates with a step, of any kind, to one of those that are found.
+fn near_states(
+    alloc: Global,
+    steps: &HostSteps<'_, '_>,
+    target: usize,
+    starts: &[Option<usize>],
+    found: &[Found],
+) -> Result<Vec<Found>, AllocError>
+    ensures { IfOk result (λ near. AreNearTo steps.now target starts.now found.now near.items) }
+{
+    let sought = Sought {
+        target,
+        counted: Counted::Any,
+    };
+    let mut left = heard(alloc, steps, sought, starts)?;
+    let mut near = Vec::new(alloc);
+    for index in 0..found.len() {
+        let aim = Aim {
+            index,
+            state: found[index].state,
+            level: steps.least,
+            counted: Counted::Any,
+        };
+        left = draw_to(alloc, steps, aim, &left, &mut near)?;
+    }
+    Ok(near)
+}
+
+// Returns so many users that are not marked.
+fn no_marks(alloc: Global, users: usize) -> Result<Vec<bool>, AllocError> {
+    let mut marks = Vec::new(alloc);
+    for _ in 0..users {
+        marks.push(false)?;
+    }
+    Ok(marks)
+}
+
+// Marks a user.
+fn mark(marks: &mut [bool], user: usize)
+    ensures { marks.new ≡ marked marks.old user }
+{
+    if user < marks.len() {
+        marks[user] = true;
+    }
+}
+
+// Marks the users of these states.
+fn mark_all(marks: &mut [bool], found: &[Found])
+    ensures known { length marks.new ≡ length marks.old }
+    ensures marked { All (λ f. get_or marks.new f.state.user true ≡ true) found.now }
+{
+    for index in 0..found.len() {
+        mark(marks, found[index].state.user);
+    }
+}
+
+// Returns for each user whether it is that of one of these states.
+fn users_of(alloc: Global, users: usize, found: &[Found]) -> Result<Vec<bool>, AllocError>
+    ensures { IfOk result (λ marks. All (λ f. get_or marks.items f.state.user true ≡ true)
+        found.now) }
+{
+    let mut marks = no_marks(alloc, users)?;
+    mark_all(marks.as_mut_slice(), found);
+    Ok(marks)
+}
+
+/// Returns for each user whether a step of one of its states, of any kind, leads to one of those that are found; of the users alone
+/// that have a start. Returns `AllocError` if allocation fails.
+pub(crate) fn near_users(
+    alloc: Global,
+    steps: &HostSteps<'_, '_>,
+    target: usize,
+    starts: &[Option<usize>],
+    found: &[Found],
+) -> Result<Vec<bool>, AllocError>
+    ensures { IfOk result (λ near. AreNear steps.now target starts.now found.now near.items) }
+{
+    let near = near_states(alloc, steps, target, starts, found)?;
+    let marks = users_of(alloc, steps.directory.people().len(), &near)?;
+    Ok(marks)
+}
+
+/// Whether the user is marked. One past the last is.
+pub(crate) fn is_near(marks: &[bool], user: usize) -> bool
+    ensures { result ≡ get_or marks.now user true }
+{
+    match marks.get(user) {
+        Some(is) => *is,
+        None => true,
+    }
+}
