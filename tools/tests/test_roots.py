@@ -166,27 +166,29 @@ class Host:
         ease = self.steps[one, other].ease
         return 2 - ease if ease else 2 + (one.user != user)
 
-    def is_reached(self, user: str, level: int, most: int) -> bool:
-        """Returns whether root is reached from a user by steps of a level or a better one that ask for no more than a password."""
-        found = {State(user)}
+    def distance(self, user: str, level: int, most: int) -> int | None:
+        """Returns how few steps lead from a user to root, of a level or a better one, that ask for no more than a password."""
         good = [
             (one, other) for (one, other), it in self.steps.items() if it.level >= level and self.asked(user, one, other) <= most
         ]
-        while more := {other for one, other in good if one in found and other not in found}:
-            found |= more
-        return any(state.user == "root" for state in found)
+        found, last, count = {State(user)}, {State(user)}, 0
+        while last and all(state.user != "root" for state in last):
+            last = {other for one, other in good if one in last} - found
+            found |= last
+            count += 1
+        return count if last else None
 
-    def best(self) -> dict[str, tuple[str, str]]:
-        """Returns the best level of each user that leads to root, and the least password of a chain of that level."""
-        best: dict[str, tuple[str, str]] = {}
-        for level, most in itertools.product((1, 2, 3), (3, 2, 1, 0)):
-            best |= {
-                user: (LEVELS[level], PASSWORDS[most]) for user in GROUPS if user != "root" and self.is_reached(user, level, most)
-            }
+    def best(self) -> dict[str, tuple[str, str, int]]:
+        """Returns of each user that leads to root the best level, the least password at that level, and the fewest steps then."""
+        best: dict[str, tuple[str, str, int]] = {}
+        for level, most, user in itertools.product((1, 2, 3), (3, 2, 1, 0), GROUPS):
+            count = self.distance(user, level, most)
+            if count:
+                best[user] = LEVELS[level], PASSWORDS[most], count
         return best
 
-    def shown(self, row: Row) -> tuple[str, str, str, str]:
-        """Returns the level, the password, the place and the tags of the chain that a row shows."""
+    def shown(self, row: Row) -> tuple[str, str, str, str, int]:
+        """Returns the level, the password, the place, the tags and the number of steps of the chain that a row shows."""
         states = [State(row.user)]
         for name in row.via.split(" > ") if row.via else []:
             user, _, added = name.partition("+")
@@ -195,7 +197,7 @@ class Host:
             states.append(State("root"))
         steps = [self.steps[pair] for pair in zip(states, states[1:])]
         asked = [self.asked(row.user, *pair) for pair in zip(states, states[1:])]
-        return LEVELS[min(step.level for step in steps)], PASSWORDS[max(asked, default=0)], steps[0].place, steps[0].tags
+        return LEVELS[min(step.level for step in steps)], PASSWORDS[max(asked, default=0)], steps[0].place, steps[0].tags, len(steps)
 
 
 class Draw(listing.Draw):
@@ -269,10 +271,10 @@ class Roots(Drawn):
         self.assertEqual(rows[0], Row("root", host.host, "root", "root", "none", "", "", "", ""))
         self.assertEqual([row.user for row in rows], [user for user in GROUPS if user in best or user == "root"])
         for row in rows[1:]:
-            level, password, place, tags = host.shown(row)
+            level, password, place, tags, count = host.shown(row)
             wanted = password if is_sure or password == "none" else "?"
             self.assertEqual(row[2:7], ("root", level, wanted, place, tags))
-            self.assertEqual((row.level, password), best[row.user])
+            self.assertEqual((row.level, password, count), best[row.user])
 
     def seen(self, policy: listing.Policy, is_sure: bool) -> Iterator[str]:
         """Yields what there is in the table of a policy. Fails where it is not that of the second body."""

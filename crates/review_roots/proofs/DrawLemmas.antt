@@ -5,7 +5,8 @@ use Rattle.std.proofs.Common.{inl, inr, map, refl, sym, subst, take, Option, Som
 use Rattle.std.specs.Prelude.{All, filter, slice_get}
 use Rattle.std.specs.List.{Contains}
 use Rattle.std.proofs.lemmas.List.{length-map, map-append}
-use Rattle.std.proofs.lemmas.List.Elements.{All-filter, filter-append}
+use Rattle.std.proofs.lemmas.Bool.{cases_lt}
+use Rattle.std.proofs.lemmas.List.Elements.{All-contains, All-contains_itself, All-filter, All-map, All-weaker, filter-append}
 use Rattle.review_roots.specs.declared.candidate.Candidate.{Candidate}
 use Rattle.review_roots.specs.declared.host.HostSteps.{HostSteps}
 use Rattle.review_roots.specs.declared.level.Level.{Level}
@@ -14,10 +15,12 @@ use Rattle.review_roots.specs.declared.search.Found.{Found}
 use Rattle.review_roots.specs.declared.search.Sought.{Sought}
 use Rattle.review_roots.specs.Body.Candidates.{states_of}
 use Rattle.review_roots.specs.States.{steps_to}
-use Rattle.review_roots.specs.Body.Found.{AreGiven, found_by, IsCandidate, IsDrawn, IsGiven, IsSearch, kept_steps, reaches}
+use Rattle.review_roots.specs.Body.Found.{AreDeep, AreGiven, found_by, IsCandidate, IsDrawn, IsGiven, IsSearch, kept_steps, reaches}
+use Rattle.review_roots.specs.declared.state.State.{State}
+use Rattle.review_roots.specs.Ranks.{is_at_least}
 use Rattle.review_roots.specs.Ways.{step_on}
 use Rattle.review_roots.proofs.ListSteps.{take-more, filter-mapped, map-twice}
-use Rattle.review_roots.proofs.SearchLemmas.{drawn_to, drawn-more, drawn-search, from-map, get-append, get-append-cases, new_found}
+use Rattle.review_roots.proofs.SearchLemmas.{drawn_to, drawn-deep, drawn-search, from-map, get-append, get-append-cases, new_found, to-map}
 use Rattle.review_roots.proofs.SearchLemmas.{parted-length}
 
 -- one item more of a list of references that is filtered
@@ -64,14 +67,14 @@ one-found f now by left first old new i c within is passes so_far more =
 module _ (h : HostSteps) (target : ℕ) (aim : Aim) (cs : List Candidate) where
   pub draw-found :
       map (found_by h aim) (filter (reaches h aim) cs)
-      ≡ map (new_found (λ s. step_on h s aim.state) aim.level aim.index)
+      ≡ map (new_found (λ s. step_on h s aim.state) aim.steps aim.index)
       (filter (drawn_to (steps_to h.checked.now h.directory.now h.host.now h.groups.now target aim.counted) aim.level aim.state)
       (states_of cs))
   draw-found =
-      sym (ap (map (new_found (λ s. step_on h s aim.state) aim.level aim.index))
+      sym (ap (map (new_found (λ s. step_on h s aim.state) aim.steps aim.index))
       (filter-mapped (drawn_to (steps_to h.checked.now h.directory.now h.host.now h.groups.now target aim.counted) aim.level aim.state)
       (λ (c : Candidate). c.state) cs)
-      ∙ map-twice (new_found (λ s. step_on h s aim.state) aim.level aim.index) (λ (c : Candidate). c.state) (filter (reaches h aim) cs))
+      ∙ map-twice (new_found (λ s. step_on h s aim.state) aim.steps aim.index) (λ (c : Candidate). c.state) (filter (reaches h aim) cs))
 
   pub draw-kept :
       states_of (filter (λ c. not (reaches h aim c)) cs)
@@ -85,36 +88,34 @@ module _
     (h : HostSteps) (q : Sought) (l : Level) (n : ℕ) (t : Found) (found new : List Found) (cs kept : List Candidate)
     (there : slice_get found n ≡ Some t)
     (finds : new ≡ found
-    ++ map (found_by h (record { index = n; state = t.state; level = l; counted = q.counted }))
-    (filter (reaches h (record { index = n; state = t.state; level = l; counted = q.counted })) cs))
-    (keeps : kept ≡ filter (λ c. not (reaches h (record { index = n; state = t.state; level = l; counted = q.counted }) c)) cs)
+    ++ map (found_by h (record { index = n; state = t.state; level = l; counted = q.counted; steps = t.steps + 1 }))
+    (filter (reaches h (record { index = n; state = t.state; level = l; counted = q.counted; steps = t.steps + 1 })) cs))
+    (keeps : kept ≡ filter (λ c. not (reaches h (record { index = n; state = t.state; level = l; counted = q.counted; steps = t.steps + 1 }) c)) cs)
   where
     abbrev aim : Aim
-    aim = record { index = n; state = t.state; level = l; counted = q.counted }
+    aim = record { index = n; state = t.state; level = l; counted = q.counted; steps = t.steps + 1 }
 
     finds_states : new ≡ found
-        ++ map (new_found (λ s. step_on h s t.state) l n) (filter (drawn_to (kept_steps h q) l t.state) (states_of cs))
+        ++ map (new_found (λ s. step_on h s t.state) (t.steps + 1) n) (filter (drawn_to (kept_steps h q) l t.state) (states_of cs))
     finds_states = finds ∙ ap (λ (xs : List Found). found ++ xs) (draw-found h q.target aim cs)
 
     keeps_states : states_of kept ≡ filter (λ s. not (drawn_to (kept_steps h q) l t.state s)) (states_of cs)
     keeps_states = ap states_of keeps ∙ draw-kept h q.target aim cs
 
-    pub spread-search : IsSearch (kept_steps h q) h.least l found (states_of cs) → IsSearch (kept_steps h q) h.least l new (states_of kept)
-    spread-search search =
-        subst (λ xs. IsSearch (kept_steps h q) h.least l xs (states_of kept)) (sym finds_states)
-        (subst (IsSearch (kept_steps h q) h.least l
-        (found ++ map (new_found (λ s. step_on h s t.state) l n) (filter (drawn_to (kept_steps h q) l t.state) (states_of cs))))
+    pub spread-search : (k : Level) → IsSearch (kept_steps h q) k l n found (states_of cs)
+        → IsSearch (kept_steps h q) k l (n + 1) new (states_of kept)
+    spread-search k search =
+        subst (λ xs. IsSearch (kept_steps h q) k l (n + 1) xs (states_of kept)) (sym finds_states)
+        (subst (IsSearch (kept_steps h q) k l (n + 1)
+        (found ++ map (new_found (λ s. step_on h s t.state) (t.steps + 1) n) (filter (drawn_to (kept_steps h q) l t.state) (states_of cs))))
         (sym keeps_states)
-        (drawn-search (kept_steps h q) (λ s. step_on h s t.state) h.least l n t found (states_of cs) search there))
+        (drawn-search (kept_steps h q) (λ s. step_on h s t.state) k l n t found (states_of cs) search there))
 
-    pub spread-drawn : IsSearch (kept_steps h q) h.least l found (states_of cs) → IsDrawn (kept_steps h q) l n found (states_of cs)
-        → IsDrawn (kept_steps h q) l (n + 1) new (states_of kept)
-    spread-drawn search drawn =
-        subst (λ xs. IsDrawn (kept_steps h q) l (n + 1) xs (states_of kept)) (sym finds_states)
-        (subst (IsDrawn (kept_steps h q) l (n + 1)
-        (found ++ map (new_found (λ s. step_on h s t.state) l n) (filter (drawn_to (kept_steps h q) l t.state) (states_of cs))))
-        (sym keeps_states)
-        (drawn-more (kept_steps h q) (λ s. step_on h s t.state) h.least l n t found (states_of cs) search there drawn))
+    pub spread-deep : AreDeep found → AreDeep new
+    spread-deep deep =
+        subst AreDeep (sym finds)
+        (drawn-deep n t found (map (found_by h aim) (filter (reaches h aim) cs)) there deep
+        (λ f c. let s = from-map (found_by h aim) (filter (reaches h aim) cs) f c in ap (λ (f : Found). f.steps) (sym s.2)))
 
     old_given : (e : Found) (o : Option ℕ) → IsGiven h found e o
         → IsGiven h (found ++ map (found_by h aim) (filter (reaches h aim) cs)) e o
@@ -149,6 +150,34 @@ module _
         let m : length (map (found_by h aim) (filter (reaches h aim) cs))
         ≡ length (filter (reaches h aim) cs) = length-map (filter (reaches h aim) cs) (found_by h aim) in
         omega (arith, parted, k, f, m)
+
+-- an aim to which no candidate has a step
+pub drawn-next :
+    (h : HostSteps) (q : Sought) (l : Level) (n m : ℕ) (t : Found) (found : List Found) (cs : List Candidate) → slice_get found n ≡ Some t →
+    All (λ c. reaches h (record { index = n; state = t.state; level = l; counted = q.counted; steps = m }) c ≡ false) cs →
+    IsDrawn (kept_steps h q) l n found (states_of cs) → IsDrawn (kept_steps h q) l (n + 1) found (states_of cs)
+drawn-next h q l n m t found cs there none drawn =
+    All-map Far (λ (c : Candidate). c.state) cs
+    (All-weaker (Contains cs) (λ c. Far c.state) (λ c inside. one c inside) cs (All-contains_itself cs))
+  where
+    Far : State → Type 0
+    Far s = (k : ℕ) (f : Found) → k < n + 1 → slice_get found k ≡ Some f → is_at_least l ((kept_steps h q).level s f.state) ≡ false
+
+    one : (c : Candidate) → Contains cs c → Far c.state
+    one c inside k f less at = go (cases_lt k n)
+      where
+        go : (k < n) ⊎ (n ≤ k) → is_at_least l ((kept_steps h q).level c.state f.state) ≡ false
+        go (inl before) =
+            All-contains (λ s. (k : ℕ) (f : Found) → k < n → slice_get found k ≡ Some f
+            → is_at_least l ((kept_steps h q).level s f.state) ≡ false) (states_of cs) c.state drawn (to-map (λ (c : Candidate). c.state) cs c inside)
+            k f before at
+        go (inr from) =
+            let same : k ≡ n = omega (arith, from, less) in
+            let is : Some t ≡ Some f = sym there ∙ ap (slice_get found) (sym same) ∙ at in
+            let this : t ≡ f = cc in
+            ap (λ (f : Found). is_at_least l ((kept_steps h q).level c.state f.state)) (sym this)
+            ∙ All-contains (λ c. reaches h (record { index = n; state = t.state; level = l; counted = q.counted; steps = m }) c ≡ false) cs
+            c none inside
 
 -- ---- Lists that are filtered as they are gone through
 

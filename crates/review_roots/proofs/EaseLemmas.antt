@@ -1,6 +1,7 @@
 -- A chain that asks for little has steps alone that ask for no more.
-use Rattle.std.proofs.Common.{◌≡◌, ◌<◌, ◌≤◌, ◌∙◌, ◌⊎◌, ◌&&◌, ◌||◌, ◌==◌, ℕ, Bool, true, false, cond, List, [], ◌∷◌, Option, Some, None, ap, arith, inl, inr}
-use Rattle.std.proofs.Common.{length, refl, sym}
+use Rattle.std.proofs.Common.{◌≡◌, ◌<◌, ◌≤◌, ◌∙◌, ◌⊎◌, ◌&&◌, ◌||◌, ◌==◌, ℕ, Bool, true, false, cond, List, [], ◌∷◌, ap, arith, inl, inr}
+use Rattle.std.proofs.Common.{Option, Some, None}
+use Rattle.std.proofs.Common.{length, refl, subst, sym}
 use Rattle.std.specs.Prelude.{is_some, slice_get}
 use Rattle.std.specs.List.{Contains}
 use Rattle.std.proofs.lemmas.Bool.{cases_lt}
@@ -153,12 +154,19 @@ counted-step k l user a listed step = go k step
     go counted.Free at = either a.free at
     go (counted.Own owner) at = either ((user == owner) || a.unasked) at
 
--- the most that a chain of steps that count asks for, which begins with the user
-abbrev pub IsMost : Counted → ℕ → ℕ → Type 0
-IsMost counted.Any user n = 3 ≤ n
-IsMost counted.Unasked user n = 1 ≤ n
-IsMost counted.Free user n = Unit {0}
-IsMost (counted.Own owner) user n = (owner ≡ user) × (2 ≤ n)
+-- if only steps of one user's own count, it is this user
+abbrev pub IsOf : Counted → ℕ → Type 0
+IsOf counted.Any user = Unit {0}
+IsOf counted.Unasked user = Unit {0}
+IsOf counted.Free user = Unit {0}
+IsOf (counted.Own owner) user = owner ≡ user
+
+-- the most that a chain of steps that count asks for
+abbrev pub most_of : Counted → ℕ
+most_of counted.Any = 3
+most_of counted.Unasked = 1
+most_of counted.Free = 0
+most_of (counted.Own owner) = 2
 
 asked-most : (f u o : Bool) → password_rank (asked_by f u o) ≤ 3
 asked-most true u o = omega arith
@@ -191,29 +199,24 @@ module _ (h : HostSteps) (target : ℕ) (l : Level) (listed : is_at_least level.
   counted-leads k s (t ∷ ts) leads = ((counted-step k l s.user (step_on h s t) listed leads.0).1, counted-leads k t ts leads.1)
 
   step-asks :
-      (k : Counted) (user n : ℕ) → IsMost k user n → (s t : State) → Counts k s.user (step_on h s t)
-      → password_rank (step_password (step_on h s t) user s) ≤ n
-  step-asks counted.Any user n is s t counts =
-      let a = step_on h s t in let most = asked-most a.free a.unasked (s.user == user) in omega (arith, most, is)
-  step-asks counted.Unasked user n is s t counts =
-      let a = step_on h s t in let most = asked-unasked a.free a.unasked (s.user == user) counts in omega (arith, most, is)
-  step-asks counted.Free user n is s t counts =
-      let a = step_on h s t in let most = asked-free a.free a.unasked (s.user == user) counts in omega (arith, most)
-  step-asks (counted.Own owner) user n is s t counts =
+      (k : Counted) (user : ℕ) → IsOf k user → (s t : State) → Counts k s.user (step_on h s t)
+      → password_rank (step_password (step_on h s t) user s) ≤ most_of k
+  step-asks counted.Any user is s t counts = let a = step_on h s t in asked-most a.free a.unasked (s.user == user)
+  step-asks counted.Unasked user is s t counts = let a = step_on h s t in asked-unasked a.free a.unasked (s.user == user) counts
+  step-asks counted.Free user is s t counts = let a = step_on h s t in asked-free a.free a.unasked (s.user == user) counts
+  step-asks (counted.Own owner) user is s t counts =
       let a = step_on h s t in
-      let most = asked-own a.free a.unasked (s.user == user)
-      (ap (λ o. (s.user == o) || a.unasked) (sym is.0) ∙ counts) in
-      omega (arith, most, is.1)
+      asked-own a.free a.unasked (s.user == user) (ap (λ o. (s.user == o) || a.unasked) (sym is) ∙ counts)
 
   -- a chain of steps that count asks for no more
   pub chain-asks-most :
-      (k : Counted) (user n : ℕ) → IsMost k user n → (s : State) (chain : List State) → LeadsAlong (counted_steps k) l s chain
-      → password_rank (password_along h user s chain) ≤ n
-  chain-asks-most k user n is s [] leads = omega arith
-  chain-asks-most k user n is s (t ∷ ts) leads =
-      worse-most (step_password (step_on h s t) user s) (password_along h user t ts) n
-      (step-asks k user n is s t (counted-step k l s.user (step_on h s t) listed leads.0).0)
-      (chain-asks-most k user n is t ts leads.1)
+      (k : Counted) (user : ℕ) → IsOf k user → (s : State) (chain : List State) → LeadsAlong (counted_steps k) l s chain
+      → password_rank (password_along h user s chain) ≤ most_of k
+  chain-asks-most k user is s [] leads = omega arith
+  chain-asks-most k user is s (t ∷ ts) leads =
+      worse-most (step_password (step_on h s t) user s) (password_along h user t ts) (most_of k)
+      (step-asks k user is s t (counted-step k l s.user (step_on h s t) listed leads.0).0)
+      (chain-asks-most k user is t ts leads.1)
 
 -- ---- Chains that ask for little
 
@@ -263,6 +266,17 @@ module _ (h : HostSteps) (target : ℕ) (l : Level) where
               (little-own a.free a.unasked (s.user == user) (step-eases h s t) (first-most s t ts 2 most)) leads.0,
           own-leads t ts leads.1 (rest-most s t ts 2 most),
         )
+
+  -- a chain that asks for no more than steps that count is one of these
+  pub little-leads :
+      (k : Counted) (user : ℕ) → IsOf k user → (s : State) (ts : List State) → LeadsAlong (any_steps h target) l s ts →
+      password_rank (password_along h user s ts) ≤ most_of k →
+      LeadsAlong (steps_to h.checked.now h.directory.now h.host.now h.groups.now target k) l s ts
+  little-leads counted.Any user is s ts leads most = leads
+  little-leads counted.Unasked user is s ts leads most = unasked-leads user s ts leads most
+  little-leads counted.Free user is s ts leads most = free-leads user s ts leads most
+  little-leads (counted.Own owner) user is s ts leads most =
+      subst (λ o. LeadsAlong (own_steps h target o) l s ts) (sym is) (own-leads user s ts leads most)
 
   -- no chain of the level asks for less than the password
   abbrev pub Excludes : State → Password → Type 0

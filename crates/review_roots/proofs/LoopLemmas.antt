@@ -1,5 +1,5 @@
 -- What loops and calls leave, in the words of the definitions.
-use Rattle.std.proofs.Common.{◌≡◌, ◌<◌, ◌≤◌, ◌∙◌, ℕ, zero, suc, true, false, List, [], ◌∷◌, ◌++◌, ◌&&◌, ap, arith, drop, false}
+use Rattle.std.proofs.Common.{◌≡◌, ◌<◌, ◌≤◌, ◌∙◌, ℕ, zero, suc, false, List, [], ◌∷◌, ◌++◌, ◌&&◌, ap, arith, drop, false}
 use Rattle.std.proofs.Common.{flat_map, get_or, length}
 use Rattle.std.proofs.Common.{map, refl, subst, sym, take}
 use Rattle.std.proofs.Common.{Option, Some, None, Bor, Global, Vec, option_copied}
@@ -31,7 +31,6 @@ use Rattle.review_roots.specs.Body.Candidates.{part_at}
 use Rattle.review_roots.specs.Body.Found.{PointBack, AreFound, AreGiven, IsCandidate, IsFound, found_states}
 use Rattle.review_roots.specs.Sought.{steps_of}
 use Rattle.review_roots.specs.Chains.{Steps}
-use Rattle.review_roots.specs.Ranks.{is_at_least}
 use Rattle.review_roots.specs.Ways.{IsChain, step_password, worse}
 use Rattle.review_roots.proofs.GivenLemmas.{blocks_give}
 use Rattle.review_roots.proofs.IndexLemmas.{answer-at, parts-are}
@@ -175,28 +174,30 @@ chain-within found next chain new e also more within =
     (to-map (λ (f : Found). f.state) found (get_or found next e) (Contains-get_or found next e also)))
 
 -- the found states are states
-states-inside : (g : Steps State) (found : List Found) → All (IsFound g) found → (s : State) → Contains (found_states found) s
-    → Contains g.states s
-states-inside g found right s c =
+states-inside : (g : Steps State) (l : Level) (found : List Found) → All (IsFound g l) found → (s : State)
+    → Contains (found_states found) s → Contains g.states s
+states-inside g l found right s c =
     let f = from-map (λ (f : Found). f.state) found s c in
-    subst (Contains g.states) f.2 (All-contains (IsFound g) found f.0 right f.1).inside
+    subst (Contains g.states) f.2 (All-contains (IsFound g l) found f.0 right f.1).inside
 
 pub way-is :
-    (h : HostSteps) (q : Sought) (least : Level) (found : List Found) (index : ℕ) (d f : Found) (chain : Vec State Global)
-    (password : Password) (marks : Marks) → AreFound (steps_of h q) h.states.now least found → AreGiven h found → index < length found →
+    (h : HostSteps) (q : Sought) (l : Level) (found : List Found) (index : ℕ) (d f : Found) (chain : Vec State Global)
+    (password : Password) (marks : Marks) → AreFound (steps_of h q) h.states.now l found → AreGiven h found → index < length found →
     slice_get found index ≡ Some f → LeadsWhole found index chain.items → All (Contains (found_states found)) chain.items →
     HasRow found index chain.items → HasPassword found (get_or found index d).state.user index chain.items password →
     HasMarks found index chain.items marks →
-    IsChain h q least f.state (record {
-      level = (get_or found index d).level;
+    IsChain h q f.state (record {
+      level = l;
       chain = chain;
       by = (get_or found index d).given.by;
       password = password;
       marks = marks;
     })
-way-is h q least found index d f chain password marks are given inside at leads within row asks depends =
-    subst (λ (e : Found). IsChain h q least e.state (record {
-      level = (get_or found index d).level;
+way-is h q l found index d f chain password marks are given inside at leads within row asks depends =
+    let whole = leads (steps_of h q) l (get_or found index d) are.linked (there found index d inside) in
+    let is = All-contains (IsFound (steps_of h q) l) found (get_or found index d) are.right (Contains-get_or found index d inside) in
+    subst (λ (e : Found). IsChain h q e.state (record {
+      level = l;
       chain = chain;
       by = (get_or found index d).given.by;
       password = password;
@@ -204,11 +205,9 @@ way-is h q least found index d f chain password marks are given inside at leads 
     })) this
     (record {
       inside = All-weaker (Contains (found_states found)) (Contains (steps_of h q).states)
-          (states-inside (steps_of h q) found are.right) chain.items within;
-      leads = leads (steps_of h q) (get_or found index d) are.linked (there found index d inside);
-      best = (All-contains (IsFound (steps_of h q)) found (get_or found index d) are.right (Contains-get_or found index d inside)).best;
-      enough = All-contains (λ f. is_at_least least f.level ≡ true) found (get_or found index d) are.levels
-          (Contains-get_or found index d inside);
+          (states-inside (steps_of h q) l found are.right) chain.items within;
+      leads = whole.0;
+      shortest = λ n p. let few = is.shortest n p in let steps = whole.1 in omega (arith, few, steps);
       by = row h (get_or found index d) given (there found index d inside);
       password = asks h (get_or found index d) given (there found index d inside);
       marks = depends h (get_or found index d) given (there found index d inside);

@@ -10,6 +10,7 @@ use Rattle.std.proofs.lemmas.List.Elements.{Contains-append_left, Contains-appen
 use Rattle.review_roots.specs.declared.candidate.Candidate.{Candidate}
 use Rattle.review_roots.specs.declared.given.Counted.TheVariants as counted
 use Rattle.review_roots.specs.declared.host.HostSteps.{HostSteps}
+use Rattle.review_roots.specs.declared.level.Level.{Level}
 use Rattle.review_roots.specs.declared.search.Aim.{Aim}
 use Rattle.review_roots.specs.declared.search.Found.{Found}
 use Rattle.review_roots.specs.declared.state.State.{State}
@@ -74,16 +75,16 @@ mark-next marks new found n d within more so_far =
 
 -- where each state that is near has its user marked, the users are
 pub near-marked :
-    (h : HostSteps) (target : ℕ) (starts : List (Option ℕ)) (found near : List Found) (marks : List Bool) → AreNearTo h target starts found near →
-    AreMarked marks near → AreNear h target starts found marks
-near-marked h target starts found near marks are marked_all =
+    (h : HostSteps) (target : ℕ) (l : Level) (starts : List (Option ℕ)) (found near : List Found) (marks : List Bool) → AreNearTo h target l starts found near →
+    AreMarked marks near → AreNear h target l starts found marks
+near-marked h target l starts found near marks are marked_all =
     All-weaker Near Marked (λ c is. go c is) (filter (is_left h (any_sought target) starts) h.candidates.now) are
   where
     Near : Candidate → Type 0
-    Near c = Contains (found_states near) c.state ⊎ All (λ f. is_at_least h.least (step_on h c.state f.state).level ≡ false) found
+    Near c = Contains (found_states near) c.state ⊎ All (λ f. is_at_least l (step_on h c.state f.state).level ≡ false) found
 
     Marked : Candidate → Type 0
-    Marked c = (get_or marks c.state.user true ≡ true) ⊎ All (λ f. is_at_least h.least (step_on h c.state f.state).level ≡ false) found
+    Marked c = (get_or marks c.state.user true ≡ true) ⊎ All (λ f. is_at_least l (step_on h c.state f.state).level ≡ false) found
 
     go : (c : Candidate) → Near c → Marked c
     go c (inl inside) =
@@ -97,8 +98,8 @@ near-marked h target starts found near marks are marked_all =
 abbrev pub AreParted : List Candidate → List Found → List Candidate → Type 0
 AreParted all near left = All (λ c. Contains (found_states near) c.state ⊎ Contains left c) all
 
-abbrev pub AreFar : HostSteps → List Found → List Candidate → Type 0
-AreFar h found left = All (λ c. All (λ f. is_at_least h.least (step_on h c.state f.state).level ≡ false) found) left
+abbrev pub AreFar : HostSteps → Level → List Found → List Candidate → Type 0
+AreFar h l found left = All (λ c. All (λ f. is_at_least l (step_on h c.state f.state).level ≡ false) found) left
 
 pub parted-first : (all left : List Candidate) (near : List Found) → left ≡ all → AreParted all near left
 parted-first all left near is =
@@ -106,13 +107,13 @@ parted-first all left near is =
     (sym is) inside)) all (All-contains_itself all)
 
 module _
-    (h : HostSteps) (n : ℕ) (s : State) (near new : List Found) (left kept : List Candidate)
-    (finds : new ≡ near ++ map (found_by h (record { index = n; state = s; level = h.least; counted = counted.Any }))
-    (filter (reaches h (record { index = n; state = s; level = h.least; counted = counted.Any })) left))
-    (keeps : kept ≡ filter (λ c. not (reaches h (record { index = n; state = s; level = h.least; counted = counted.Any }) c)) left)
+    (h : HostSteps) (l : Level) (n : ℕ) (s : State) (near new : List Found) (left kept : List Candidate)
+    (finds : new ≡ near ++ map (found_by h (record { index = n; state = s; level = l; counted = counted.Any; steps = 0 }))
+    (filter (reaches h (record { index = n; state = s; level = l; counted = counted.Any; steps = 0 })) left))
+    (keeps : kept ≡ filter (λ c. not (reaches h (record { index = n; state = s; level = l; counted = counted.Any; steps = 0 }) c)) left)
   where
     abbrev aim : Aim
-    aim = record { index = n; state = s; level = h.least; counted = counted.Any }
+    aim = record { index = n; state = s; level = l; counted = counted.Any; steps = 0 }
 
     abbrev more : List Found
     more = map (found_by h aim) (filter (reaches h aim) left)
@@ -143,46 +144,46 @@ module _
             go false e = inr (in-filter (λ c. not (reaches h aim c)) left c inside (ap not e))
 
     pub far-more :
-        (found : List Found) (d : Found) → n < length found → (get_or found n d).state ≡ s → AreFar h (take n found) left →
-        AreFar h (take (n + 1) found) kept
+        (found : List Found) (d : Found) → n < length found → (get_or found n d).state ≡ s → AreFar h l (take n found) left →
+        AreFar h l (take (n + 1) found) kept
     far-more found d within at so_far =
-        subst (AreFar h (take (n + 1) found)) (sym keeps)
-        (All-weaker (λ c. All (λ f. is_at_least h.least (step_on h c.state f.state).level ≡ false) (take n found)
+        subst (AreFar h l (take (n + 1) found)) (sym keeps)
+        (All-weaker (λ c. All (λ f. is_at_least l (step_on h c.state f.state).level ≡ false) (take n found)
         × (not (reaches h aim c) ≡ true))
-        (λ c. All (λ f. is_at_least h.least (step_on h c.state f.state).level ≡ false) (take (n + 1) found)) one
+        (λ c. All (λ f. is_at_least l (step_on h c.state f.state).level ≡ false) (take (n + 1) found)) one
         (filter (λ c. not (reaches h aim c)) left)
-        (both-all (λ c. All (λ f. is_at_least h.least (step_on h c.state f.state).level ≡ false) (take n found))
+        (both-all (λ c. All (λ f. is_at_least l (step_on h c.state f.state).level ≡ false) (take n found))
         (λ c. not (reaches h aim c) ≡ true) (filter (λ c. not (reaches h aim c)) left)
         (All-filter (λ c. not (reaches h aim c))
-        (λ c. All (λ f. is_at_least h.least (step_on h c.state f.state).level ≡ false) (take n found)) left so_far)
+        (λ c. All (λ f. is_at_least l (step_on h c.state f.state).level ≡ false) (take n found)) left so_far)
         (filter_passes (λ c. not (reaches h aim c)) left)))
       where
         f : Found
         f = get_or found n d
 
-        one : (c : Candidate) → All (λ f. is_at_least h.least (step_on h c.state f.state).level ≡ false) (take n found)
-            × (not (reaches h aim c) ≡ true) → All (λ f. is_at_least h.least (step_on h c.state f.state).level ≡ false) (take (n + 1) found)
+        one : (c : Candidate) → All (λ f. is_at_least l (step_on h c.state f.state).level ≡ false) (take n found)
+            × (not (reaches h aim c) ≡ true) → All (λ f. is_at_least l (step_on h c.state f.state).level ≡ false) (take (n + 1) found)
         one c both =
-            subst (All (λ f. is_at_least h.least (step_on h c.state f.state).level ≡ false)) (sym (take-more found n f within (same-there found n d f within)))
-            (All-push (λ f. is_at_least h.least (step_on h c.state f.state).level ≡ false) (take n found) f both.0
-            (ap (λ t. is_at_least h.least (step_on h c.state t).level) at ∙ not-true (reaches h aim c) both.1))
+            subst (All (λ f. is_at_least l (step_on h c.state f.state).level ≡ false)) (sym (take-more found n f within (same-there found n d f within)))
+            (All-push (λ f. is_at_least l (step_on h c.state f.state).level ≡ false) (take n found) f both.0
+            (ap (λ t. is_at_least l (step_on h c.state t).level) at ∙ not-true (reaches h aim c) both.1))
 
     pub near-candidates : All (IsCandidate h) left → All (IsCandidate h) kept
     near-candidates all = subst (All (IsCandidate h)) (sym keeps) (All-filter (λ c. not (reaches h aim c)) (IsCandidate h) left all)
 
 -- after the last aim
 pub near-all :
-    (h : HostSteps) (target : ℕ) (starts : List (Option ℕ)) (found near : List Found) (left : List Candidate) (n : ℕ) → length found ≤ n →
-    AreParted (filter (is_left h (any_sought target) starts) h.candidates.now) near left → AreFar h (take n found) left →
-    AreNearTo h target starts found near
-near-all h target starts found near left n all parted far =
+    (h : HostSteps) (target : ℕ) (l : Level) (starts : List (Option ℕ)) (found near : List Found) (left : List Candidate) (n : ℕ) → length found ≤ n →
+    AreParted (filter (is_left h (any_sought target) starts) h.candidates.now) near left → AreFar h l (take n found) left →
+    AreNearTo h target l starts found near
+near-all h target l starts found near left n all parted far =
     All-weaker (λ c. Contains (found_states near) c.state ⊎ Contains left c)
-    (λ c. Contains (found_states near) c.state ⊎ All (λ f. is_at_least h.least (step_on h c.state f.state).level ≡ false) found) go
+    (λ c. Contains (found_states near) c.state ⊎ All (λ f. is_at_least l (step_on h c.state f.state).level ≡ false) found) go
     (filter (is_left h (any_sought target) starts) h.candidates.now) parted
   where
     go : (c : Candidate) → Contains (found_states near) c.state ⊎ Contains left c
-        → Contains (found_states near) c.state ⊎ All (λ f. is_at_least h.least (step_on h c.state f.state).level ≡ false) found
+        → Contains (found_states near) c.state ⊎ All (λ f. is_at_least l (step_on h c.state f.state).level ≡ false) found
     go c (inl inside) = inl inside
     go c (inr inside) =
-        inr (subst (All (λ f. is_at_least h.least (step_on h c.state f.state).level ≡ false)) (take_all n found all)
-        (All-contains (λ c. All (λ f. is_at_least h.least (step_on h c.state f.state).level ≡ false) (take n found)) left c far inside))
+        inr (subst (All (λ f. is_at_least l (step_on h c.state f.state).level ≡ false)) (take_all n found all)
+        (All-contains (λ c. All (λ f. is_at_least l (step_on h c.state f.state).level ≡ false) (take n found)) left c far inside))

@@ -15,7 +15,8 @@ use Rattle.review_roots.specs.declared.search.Found.{Found}
 use Rattle.review_roots.specs.declared.search.Sought.{Sought}
 use Rattle.review_roots.specs.declared.state.State.{State}
 use Rattle.review_roots.specs.Body.Candidates.{states_of}
-use Rattle.review_roots.specs.Body.Found.{AreFound, AreNear, HaveNoChain, IsStuck, any_sought, found_states, found_there, is_left, kept_steps}
+use Rattle.review_roots.specs.Body.Found.{AreFound, AreNear, HaveNoChain, IsStuck}
+use Rattle.review_roots.specs.Body.Found.{any_sought, found_states, found_there, is_left, kept_steps}
 use Rattle.review_roots.specs.Chains.{HasNoPath, HasPath, Path, here, more}
 use Rattle.review_roots.specs.Ranks.{is_at_least}
 use Rattle.review_roots.specs.Sought.{own_steps, unasked_steps}
@@ -24,7 +25,7 @@ use Rattle.review_roots.specs.Ways.{step_on}
 use Rattle.review_roots.proofs.EaseLemmas.{counted-step}
 use Rattle.review_roots.proofs.KeptLemmas.{host-keeps}
 use Rattle.review_roots.proofs.PathLemmas.{itself, kept-path, plain-path}
-use Rattle.review_roots.proofs.SearchLemmas.{at-least-trans, from-map, path-state, path-weaker}
+use Rattle.review_roots.proofs.SearchLemmas.{at-least-itself, at-least-trans, from-map, path-state}
 use Rattle.review_roots.proofs.StartLemmas.{start-of}
 
 not-both : (b : Bool) → b ≡ true → b ≡ false → ⊥
@@ -80,9 +81,9 @@ module _ (h : HostSteps) (target user : ℕ) where
       more c (counted-step counted.Unasked l s.user (step_on h s t) listed step).1 (unasked-any l listed rest)
 
   module _
-      (starts : List (Option ℕ)) (found : List Found) (near : List Bool) (chainless : HaveNoChain h target starts)
-      (are : AreFound (unasked_steps h target) h.states.now h.least found) (is : AreNear h target starts found near)
-      (far : get_or near user true ≡ false) (away : user ≡ target → ⊥) (l : Level) (enough : is_at_least h.least l ≡ true)
+      (l : Level) (enough : is_at_least h.least l ≡ true) (starts : List (Option ℕ)) (found : List Found) (near : List Bool)
+      (chainless : HaveNoChain h target l starts) (are : AreFound (unasked_steps h target) h.states.now l found)
+      (is : AreNear h target l starts found near) (far : get_or near user true ≡ false) (away : user ≡ target → ⊥)
     where
       listed : is_at_least level.Listed l ≡ true
       listed = at-least-trans level.Listed h.least l h.listed enough
@@ -91,10 +92,9 @@ module _ (h : HostSteps) (target user : ℕ) where
       is-found : (y : State) → HasPath (kept_steps h unasked_q) l y → Contains (found_states found) y
       is-found y path = go (are.complete y (path-state (kept_steps h unasked_q) l path.1))
         where
-          go : Contains (found_states found) y ⊎ HasNoPath (unasked_steps h target) h.least y → Contains (found_states found) y
+          go : Contains (found_states found) y ⊎ HasNoPath (unasked_steps h target) l y → Contains (found_states found) y
           go (inl there) = there
-          go (inr none) = absurd (none path.0 (path-weaker (unasked_steps h target) h.least l enough path.0 y
-              (plain-path h unasked_q h.faultless (host-keeps h) l path.1)))
+          go (inr none) = absurd (none path.0 (plain-path h unasked_q h.faultless (host-keeps h) l path.1))
 
       abbrev goals : List Found
       goals = map found_there (filter (λ s. s.user == target) h.states.now)
@@ -104,26 +104,25 @@ module _ (h : HostSteps) (target user : ℕ) where
 
       no-turn : (x y : State) → IsTurn l x y → ⊥
       no-turn x y turn =
-          go (All-contains (λ s. Contains (found_states goals) s ⊎ (Contains (states_of left) s ⊎ IsStuck (kept_steps h any_q) h.least s))
-          h.states.now x (start-of h any_q starts goals left chainless refl refl).covered turn.inside)
+          go (All-contains (λ s. Contains (found_states goals) s ⊎ (Contains (states_of left) s ⊎ IsStuck (kept_steps h any_q) l s))
+          h.states.now x (start-of h any_q l enough starts goals left chainless refl refl).covered turn.inside)
         where
           near-one : (c : Candidate) → Contains left c → c.state ≡ x → ⊥
           near-one c inside at =
               which (All-contains (λ (c : Candidate). (get_or near c.state.user true ≡ true)
-              ⊎ All (λ f. is_at_least h.least (step_on h c.state f.state).level ≡ false) found) left c is inside)
+              ⊎ All (λ f. is_at_least l (step_on h c.state f.state).level ≡ false) found) left c is inside)
             where
               which : (get_or near c.state.user true ≡ true)
-                  ⊎ All (λ f. is_at_least h.least (step_on h c.state f.state).level ≡ false) found → ⊥
+                  ⊎ All (λ f. is_at_least l (step_on h c.state f.state).level ≡ false) found → ⊥
               which (inl marks) =
                   not-both (get_or near user true)
                   (ap (λ u. get_or near u true) (sym (ap (λ (s : State). s.user) at ∙ turn.own)) ∙ marks) far
               which (inr none) =
                   let f = from-map (λ (f : Found). f.state) found y (is-found y turn.path) in
-                  not-both (is_at_least h.least (step_on h c.state f.0.state).level)
-                  (ap (λ s. is_at_least h.least (step_on h s f.0.state).level) at
-                  ∙ ap (λ s. is_at_least h.least (step_on h x s).level) f.2
-                  ∙ at-least-trans h.least l (step_on h x y).level enough turn.step)
-                  (All-contains (λ f. is_at_least h.least (step_on h c.state f.state).level ≡ false) found f.0 none f.1)
+                  not-both (is_at_least l (step_on h c.state f.0.state).level)
+                  (ap (λ s. is_at_least l (step_on h s f.0.state).level) at
+                  ∙ ap (λ s. is_at_least l (step_on h x s).level) f.2 ∙ turn.step)
+                  (All-contains (λ f. is_at_least l (step_on h c.state f.state).level ≡ false) found f.0 none f.1)
 
           at-goal : (f : Found) → Contains goals f → f.state ≡ x → ⊥
           at-goal f inside at =
@@ -133,11 +132,11 @@ module _ (h : HostSteps) (target user : ℕ) where
               (All-contains (λ s. (s.user == target) ≡ true) (filter (λ s. s.user == target) h.states.now) s.0
               (filter_passes (λ s. s.user == target) h.states.now) s.1))
 
-          go : Contains (found_states goals) x ⊎ (Contains (states_of left) x ⊎ IsStuck (kept_steps h any_q) h.least x) → ⊥
+          go : Contains (found_states goals) x ⊎ (Contains (states_of left) x ⊎ IsStuck (kept_steps h any_q) l x) → ⊥
           go (inl goal) = let f = from-map (λ (f : Found). f.state) goals x goal in at-goal f.0 f.1 f.2
           go (inr (inl there)) = let c = from-map (λ (c : Candidate). c.state) left x there in near-one c.0 c.1 c.2
           go (inr (inr stuck)) =
-              stuck l enough (suc turn.path.0) (more turn.inside turn.step (unasked-any l listed turn.path.1))
+              stuck l (at-least-itself l) (suc turn.path.0) (more turn.inside turn.step (unasked-any l listed turn.path.1))
 
       -- then no chain of the level asks for nobody else's
       pub own-none :
@@ -146,7 +145,7 @@ module _ (h : HostSteps) (target user : ℕ) where
       own-none kept none n p =
           let path = kept-path h own_q h.faultless (host-keeps h) l p (state_with None user) kept
           (itself h own_q h.faultless (host-keeps h) (state_with None user)) in
-          go (own-split l listed path.1)
+          go (own-split l listed path.1.1)
         where
           go : HasPath (kept_steps h unasked_q) l (state_with None user) ⊎ ((x : State) × ((y : State) × IsTurn l x y)) → ⊥
           go (inl unasked) = none unasked.0 (plain-path h unasked_q h.faultless (host-keeps h) l unasked.1)

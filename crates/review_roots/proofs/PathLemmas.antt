@@ -1,5 +1,5 @@
 -- A chain from a state is one, through the states that are kept, from each kept state that is alike.
-use Rattle.std.proofs.Common.{◌≡◌, ◌<◌, ◌∙◌, ℕ, zero, suc, Bool, true, false, not, ◌||◌, ◌==◌, List, [], ◌∷◌, ap, arith, get_or, length}
+use Rattle.std.proofs.Common.{◌≡◌, ◌<◌, ◌≤◌, ◌∙◌, ℕ, zero, suc, Bool, true, false, not, ◌||◌, ◌==◌, List, [], ◌∷◌, ap, arith, get_or, length}
 use Rattle.std.proofs.Common.{refl, subst, sym, Option, Some, None, inl, inr, ◌⊎◌}
 use Rattle.std.specs.Prelude.{All, option_map, slice_get}
 use Rattle.std.specs.List.{Contains, list_any}
@@ -16,11 +16,11 @@ use Rattle.review_roots.specs.declared.search.Found.{Found}
 use Rattle.review_roots.specs.declared.search.Sought.{Sought}
 use Rattle.review_roots.specs.declared.state.State.{State}
 use Rattle.review_roots.specs.Asked.{nothing}
-use Rattle.review_roots.specs.Body.Found.{AreFound, AreStarts, HaveNoChain, IsFound, IsFoundAt, IsLinked}
-use Rattle.review_roots.specs.Body.Found.{found_states, is_start, kept_steps}
+use Rattle.review_roots.specs.Body.Found.{AreFound, AreStarts, HaveNoChain, IsComplete, IsFound, IsFoundAt, IsLinked}
+use Rattle.review_roots.specs.Body.Found.{any_sought, found_states, is_start, kept_steps}
 use Rattle.review_roots.specs.Body.Kept.{AreAlike, AreBothUnnamed, AreKept, IsAlike}
 use Rattle.review_roots.specs.Body.Unnamed.{is_unnamed}
-use Rattle.review_roots.specs.Chains.{Steps, Path, here, more, HasPath, HasNoPath}
+use Rattle.review_roots.specs.Chains.{Steps, Path, here, more, HasNoPath}
 use Rattle.review_roots.specs.Ranks.{is_at_least}
 use Rattle.review_roots.specs.Sought.{any_steps, steps_of}
 use Rattle.review_roots.specs.States.{given_between, group_at, level_for, state_with, with_added}
@@ -274,21 +274,29 @@ module _ (h : HostSteps) (q : Sought) (known : directory_fault h.directory.now.p
         (alike-swap keeps.ids u (group_at h.groups.now s.added) (group_at h.groups.now t.added) (one.1 u is_s)) (other.1 u is_s),
   )
 
-  -- a chain from a state is one, through kept states, from each kept state that is alike
-  pub kept-path : (l : Level) {n : ℕ} {s : State} → Path g l n s → (s' : State) → Contains k.states s' → Alike s s' → HasPath k l s'
-  kept-path l (here {s} c at) s' inside alike = (zero, here inside (ap (λ u. u == q.target) (sym alike.0) ∙ at))
+  -- a chain of no more steps leads from the state
+  abbrev HasWithin : Level → ℕ → State → Type 0
+  HasWithin l n s = (m : ℕ) × ((m ≤ n) × Path k l m s)
+
+  -- a chain from a state is one of no more steps, through kept states, from each kept state that is alike
+  pub kept-path : (l : Level) {n : ℕ} {s : State} → Path g l n s → (s' : State) → Contains k.states s' → Alike s s' → HasWithin l n s'
+  kept-path l (here {s} c at) s' inside alike =
+      (zero, (omega arith, here inside (ap (λ u. u == q.target) (sym alike.0) ∙ at)))
   kept-path l (more {n} {s} {t} c step rest) s' inside alike =
       go (keeps.covers t (path-state g l rest)) (λ u there like. kept-path l rest u there like)
     where
       go : (t' : State) × (Contains h.states.now t' × Alike t t')
-          → ((u : State) → Contains k.states u → Alike t u → HasPath k l u) → HasPath k l s'
+          → ((u : State) → Contains k.states u → Alike t u → HasWithin l n u) → HasWithin l (suc n) s'
       go found behind = next (step-same s s' t found.0 alike found.1.1)
         where
-          next : Alike s t ⊎ (g.level s t ≡ g.level s' found.0) → HasPath k l s'
-          next (inl same) = behind s' inside (alike-turn s t s' same alike)
+          next : Alike s t ⊎ (g.level s t ≡ g.level s' found.0) → HasWithin l (suc n) s'
+          next (inl same) =
+              let b = behind s' inside (alike-turn s t s' same alike) in (b.0, (let most = b.1.0 in omega (arith, most), b.1.1))
           next (inr level) =
-              let b = behind found.0 found.1.0 found.1.1 in
-              (suc b.0, more inside (ap (is_at_least l) (sym level) ∙ step) b.1)
+              let b = behind found.0 found.1.0 found.1.1 in (
+                suc b.0,
+                (let most = b.1.0 in omega (arith, most), more inside (ap (is_at_least l) (sym level) ∙ step) b.1.1),
+              )
 
   -- a chain through kept states is one
   pub plain-path : (l : Level) {n : ℕ} {s : State} → Path k l n s → Path g l n s
@@ -299,47 +307,58 @@ module _ (h : HostSteps) (q : Sought) (known : directory_fault h.directory.now.p
   pub itself : (s : State) → Alike s s
   itself s = (refl, λ u is. inl refl)
 
-  linked-among : (found : List Found) (i : ℕ) (f : Found) (next : Option ℕ) → IsLinked k found i f next → IsLinked g found i f next
-  linked-among found i f None at = at
-  linked-among found i f (Some next) (t, is) = (t, record { there = is.there; before = is.before; step = is.step; level = is.level })
+  linked-among : (l : Level) (found : List Found) (i : ℕ) (f : Found) (next : Option ℕ) → IsLinked k l found i f next
+      → IsLinked g l found i f next
+  linked-among l found i f None at = at
+  linked-among l found i f (Some next) (t, is) = (t, record { there = is.there; before = is.before; step = is.step; steps = is.steps })
+
+  -- who has no chain through kept states has none
+  pub complete-among : (l : Level) (found : List Found) → IsComplete k k.states l found → IsComplete g h.states.now l found
+  complete-among l found complete s inside = go (complete s inside)
+    where
+      go : Contains (found_states found) s ⊎ HasNoPath k l s → Contains (found_states found) s ⊎ HasNoPath g l s
+      go (inl there) = inl there
+      go (inr none) = inr (λ n path. let p = kept-path l path s inside (itself s) in none p.0 p.1.1)
 
   -- what is found among the kept states is so among all
   pub found-among : (l : Level) (found : List Found) → AreFound k k.states l found → AreFound g h.states.now l found
   found-among l found are = record {
-    right = All-weaker (IsFound k) (IsFound g) (λ f is. record {
+    right = All-weaker (IsFound k l) (IsFound g l) (λ f is. record {
       inside = All-contains (Contains g.states) k.states f.state keeps.inside is.inside;
-      path = (is.path.0, plain-path f.level is.path.1);
-      best = λ m path. is.best m (kept-path m path.1 f.state is.inside (itself f.state));
+      path = (is.path.0, plain-path l is.path.1);
+      shortest = λ n path.
+          let p = kept-path l path f.state is.inside (itself f.state) in
+          let few = is.shortest p.0 p.1.1 in
+          let most = p.1.0 in
+          omega (arith, few, most);
     }) found are.right;
-    linked = λ i f at. linked-among found i f f.next (are.linked i f at);
-    levels = are.levels;
-    complete = λ s inside. go s inside (are.complete s inside);
+    linked = λ i f at. linked-among l found i f f.next (are.linked i f at);
+    complete = complete-among l found are.complete;
   }
-    where
-      go : (s : State) → Contains h.states.now s → Contains (found_states found) s ⊎ HasNoPath k l s
-          → Contains (found_states found) s ⊎ HasNoPath g l s
-      go s inside (inl there) = inl there
-      go s inside (inr none) = inr (λ n path. let p = kept-path l path s inside (itself s) in none p.0 p.1)
 
 -- a user that is not found among the kept states has no chain
 pub no-root :
-    (h : HostSteps) (target : ℕ) (least : Level) (found : List Found) (user : ℕ) → AreFound (any_steps h target) h.states.now least found →
+    (h : HostSteps) (q : Sought) (l : Level) (found : List Found) (user : ℕ) → AreFound (steps_of h q) h.states.now l found →
     user < length h.directory.now.people → All (λ f. is_start user f.state ≡ false) found
-    → HasNoPath (any_steps h target) least (state_with None user)
-no-root h target least found user are less none =
-    not-found (any_steps h target) h.states.now least found user are ((host-keeps h).starts user less) none
+    → HasNoPath (steps_of h q) l (state_with None user)
+no-root h q l found user are less none =
+    not-found (steps_of h q) h.states.now l found user are ((host-keeps h).starts user less) none
 
 -- no chain leads from a user without a start
 pub starts-chainless :
-    (h : HostSteps) (target : ℕ) (found : List Found) (starts : List (Option ℕ)) →
-    AreFound (any_steps h target) h.states.now h.least found →
-    AreStarts found starts → length starts ≡ length h.directory.now.people → HaveNoChain h target starts
-starts-chainless h target found starts are begin known user none =
+    (h : HostSteps) (target : ℕ) (l : Level) (found : List Found) (starts : List (Option ℕ)) →
+    AreFound (any_steps h target) h.states.now l found →
+    AreStarts found starts → length starts ≡ length h.directory.now.people → HaveNoChain h target l starts
+starts-chainless h target l found starts are begin known user none =
     let within = slice_get_within starts user None none in
-    no-root h target h.least found user are (omega (arith, within, known))
+    no-root h (any_sought target) l found user are (omega (arith, within, known))
     (subst (IsFoundAt found user) (no-start starts user none) (begin user within))
   where
     no-start : (xs : List (Option ℕ)) (i : ℕ) → slice_get xs i ≡ Some None → get_or xs i None ≡ None
     no-start [] i e = refl
     no-start (x ∷ xs) zero e = cc
     no-start (x ∷ xs) (suc i) e = no-start xs i e
+
+-- where there are no starts at all, none is known to be missing
+pub none-missing : (h : HostSteps) (target : ℕ) (l : Level) → HaveNoChain h target l []
+none-missing h target l user none = absurd (let within = slice_get_within [] user None none in omega (arith, within))

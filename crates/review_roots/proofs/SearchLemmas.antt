@@ -1,4 +1,4 @@
--- A search back from the goal, level by level, finds every state with a chain, at its best level.
+-- A search back from the goal finds every state with a chain of a level, and a shortest one of each.
 use Rattle.std.proofs.Common.{◌≡◌, ◌<◌, ◌≤◌, ◌+◌, ◌∙◌, ℕ, zero, suc, Bool, true, false, not, cond, List, [], ◌∷◌, ◌++◌, ap, arith, refl}
 use Rattle.std.proofs.Common.{length}
 use Rattle.std.proofs.Common.{map, sym, subst, Option, Some, None, inl, inr, ◌⊎◌}
@@ -15,10 +15,10 @@ use Rattle.review_roots.specs.declared.level.Level.{Level}
 use Rattle.review_roots.specs.declared.level.Level.TheVariants as level
 use Rattle.review_roots.specs.declared.search.Found.{Found}
 use Rattle.review_roots.specs.declared.state.State.{State}
-use Rattle.review_roots.specs.Chains.{Steps, Path, here, more, HasPath, HasNoPath}
+use Rattle.review_roots.specs.Chains.{Steps, Path, here, more, HasNoPath}
 use Rattle.review_roots.specs.Ranks.{rank, is_at_least}
-use Rattle.review_roots.specs.Body.Found.{IsFound, IsLinked, AreLinked, PointBack, found_states, AreFound, IsStuck, HaveNoPath, IsSearch}
-use Rattle.review_roots.specs.Body.Found.{IsDrawn}
+use Rattle.review_roots.specs.Body.Found.{AreDeep, AreFound, AreLinked, IsComplete, IsDrawn, IsFound, IsLinked, IsSearch, IsStuck}
+use Rattle.review_roots.specs.Body.Found.{PointBack, found_states}
 
 -- ---- Levels
 
@@ -33,6 +33,12 @@ at-least-itself l = le-leb (rank l) (rank l) (omega arith)
 
 pub at-least-below : (k l : Level) → rank k ≤ rank l → is_at_least k l ≡ true
 at-least-below k l h = le-leb (rank k) (rank l) h
+
+pub all-best : (l : Level) → is_at_least l level.All ≡ true
+all-best level.None = refl
+all-best level.Listed = refl
+all-best level.AllBut = refl
+all-best level.All = refl
 
 -- ---- Paths
 
@@ -114,76 +120,63 @@ get-append xs ys i x e = slice_get-append-left xs ys i (slice_get_within xs i x 
 
 -- ---- The end of a search at a level
 
-module _ (g : Steps State) (least l : Level) (found : List Found) (left : List State) (search : IsSearch g least l found left) where
-  -- no chain leads from a state that is left, if each step to what is found was sought
-  nowhere : (k : ℕ) → length found ≤ k → IsDrawn g l k found left → {n : ℕ} {s : State} → Path g l n s → Contains left s → ⊥
-  nowhere k all drawn (here {s} c at) inside =
-      let away : g.goal s ≡ false = All-contains (λ s. g.goal s ≡ false) left s search.away inside in cc
-  nowhere k all drawn (more {n} {s} {t} c step p) inside = go (search.covered t (path-state g l p)) (nowhere k all drawn p)
-    where
-      go : Contains (found_states found) t ⊎ (Contains left t ⊎ IsStuck g least t) → (Contains left t → ⊥) → ⊥
-      go (inl in_found) rest =
-          let f = from-map (λ (f : Found). f.state) found t in_found in
-          let i = contains-at found f.0 f.1 in
-          let far : is_at_least l (g.level s f.0.state) ≡ false =
-          All-contains (λ s. (j : ℕ) (f : Found) → j < k → slice_get found j ≡ Some f → is_at_least l (g.level s f.state) ≡ false)
-          left s drawn inside i.0 f.0 (let w = slice_get_within found i.0 f.0 i.1 in omega (arith, w, all)) i.1 in
-          let near : is_at_least l (g.level s f.0.state) ≡ true = ap (λ u. is_at_least l (g.level s u)) f.2 ∙ step in
-          cc
-      go (inr (inl in_left)) rest = rest in_left
-      go (inr (inr stuck)) rest = stuck l search.level n p
+-- who is not found has no chain of the level, if no step of it leads to what is found
+module _
+    (g : Steps State) (least l : Level) (enough : is_at_least least l ≡ true) (found : List Found) (left : List State)
+    (covered : (s : State) → Contains g.states s → Contains (found_states found) s ⊎ (Contains left s ⊎ IsStuck g least s))
+    (away : All (λ s. g.goal s ≡ false) left) (k : ℕ) (all : length found ≤ k) (drawn : IsDrawn g l k found left)
+  where
+    nowhere : {n : ℕ} {s : State} → Path g l n s → Contains left s → ⊥
+    nowhere (here {s} c at) inside = let apart : g.goal s ≡ false = All-contains (λ s. g.goal s ≡ false) left s away inside in cc
+    nowhere (more {n} {s} {t} c step p) inside = go (covered t (path-state g l p)) (nowhere p)
+      where
+        go : Contains (found_states found) t ⊎ (Contains left t ⊎ IsStuck g least t) → (Contains left t → ⊥) → ⊥
+        go (inl in_found) rest =
+            let f = from-map (λ (f : Found). f.state) found t in_found in
+            let i = contains-at found f.0 f.1 in
+            let far : is_at_least l (g.level s f.0.state) ≡ false =
+            All-contains (λ s. (j : ℕ) (f : Found) → j < k → slice_get found j ≡ Some f → is_at_least l (g.level s f.state) ≡ false)
+            left s drawn inside i.0 f.0 (let w = slice_get_within found i.0 f.0 i.1 in omega (arith, w, all)) i.1 in
+            let near : is_at_least l (g.level s f.0.state) ≡ true = ap (λ u. is_at_least l (g.level s u)) f.2 ∙ step in
+            cc
+        go (inr (inl in_left)) rest = rest in_left
+        go (inr (inr stuck)) rest = stuck l enough n p
 
-  pub none-left : (k : ℕ) → length found ≤ k → IsDrawn g l k found left → HaveNoPath g l left
-  none-left k all drawn = All-weaker (Contains left) (HasNoPath g l) (λ s c n p. nowhere k all drawn p c) left (All-contains_itself left)
+    pub none-further : IsComplete g g.states l found
+    none-further s c = go (covered s c)
+      where
+        go : Contains (found_states found) s ⊎ (Contains left s ⊎ IsStuck g least s) → Contains (found_states found) s ⊎ HasNoPath g l s
+        go (inl in_found) = inl in_found
+        go (inr (inl in_left)) = inr (λ n p. nowhere p in_left)
+        go (inr (inr stuck)) = inr (stuck l enough)
 
-  -- what is found at the end is all that there is
-  pub all-found : HaveNoPath g l left → AreFound g g.states l found
-  all-found none = record {
-    right = search.right;
-    linked = search.linked;
-    levels = search.levels;
-    complete = λ s c. go s (search.covered s c);
-  }
-    where
-      go : (s : State) → Contains (found_states found) s ⊎ (Contains left s ⊎ IsStuck g least s) → Contains (found_states found) s
-          ⊎ HasNoPath g l s
-      go s (inl in_found) = inl in_found
-      go s (inr (inl in_left)) = inr (All-contains (HasNoPath g l) left s none in_left)
-      go s (inr (inr stuck)) = inr (stuck l search.level)
+-- what is found at the end is all that there is
+pub all-found :
+    (g : Steps State) (least l : Level) (n : ℕ) (found : List Found) (left : List State) → IsSearch g least l n found left →
+    length found ≤ n → AreFound g g.states l found
+all-found g least l n found left search all = record {
+  right = search.right;
+  linked = search.linked;
+  complete = none-further g least l search.level found left search.covered search.away n all search.drawn;
+}
 
-  -- the search at the next lower level begins with what this one left
-  pub next-level : HaveNoPath g l left → (k : Level) → is_at_least least k ≡ true → rank k < rank l
-      → ((m : Level) → rank k < rank m → rank l ≤ rank m) → IsSearch g least k found left
-  next-level none k enough lower next = record {
-    level = enough;
-    right = search.right;
-    linked = search.linked;
-    levels = All-weaker (λ f. is_at_least l f.level ≡ true) (λ f. is_at_least k f.level ≡ true)
-        (λ f h. at-least-trans k l f.level (at-least-below k l (omega (arith, lower))) h) found search.levels;
-    covered = search.covered;
-    inside = search.inside;
-    away = search.away;
-    above = All-weaker (HasNoPath g l) (λ s. (m : Level) → rank k < rank m → HasNoPath g m s)
-        (λ s no m h n p. no n (path-weaker g l m (at-least-below l m (next m h)) n s p)) left none;
-  }
-
-pub below-all :
-    (g : Steps State) (least : Level) (found : List Found) (left : List State) → is_at_least least level.AllBut ≡ true
-    → IsSearch g least level.All found left → HaveNoPath g level.All left → IsSearch g least level.AllBut found left
-below-all g least found left enough search none =
-    next-level g least level.All found left search none level.AllBut enough (omega arith) (λ m h. omega (arith, h))
-
-pub below-all-but :
-    (g : Steps State) (least : Level) (found : List Found) (left : List State) → is_at_least least level.Listed ≡ true
-    → IsSearch g least level.AllBut found left → HaveNoPath g level.AllBut left → IsSearch g least level.Listed found left
-below-all-but g least found left enough search none =
-    next-level g least level.AllBut found left search none level.Listed enough (omega arith) (λ m h. omega (arith, h))
-
-pub listed-alone : (l : Level) → is_at_least level.Listed l ≡ true → (l ≡ level.All → ⊥) → (l ≡ level.AllBut → ⊥) → l ≡ level.Listed
-listed-alone level.None e f h = cc
-listed-alone level.Listed e f h = refl
-listed-alone level.AllBut e f h = absurd (h refl)
-listed-alone level.All e f h = absurd (f refl)
+-- all found states have been drawn to
+pub search-end :
+    (g : Steps State) (least l : Level) (n : ℕ) (found : List Found) (left : List State) → IsSearch g least l n found left →
+    length found ≤ n → IsSearch g least l (length found) found left
+search-end g least l n found left search all = record {
+  level = search.level;
+  right = search.right;
+  linked = search.linked;
+  covered = search.covered;
+  inside = search.inside;
+  away = search.away;
+  drawn = All-weaker (λ s. (k : ℕ) (f : Found) → k < n → slice_get found k ≡ Some f → is_at_least l (g.level s f.state) ≡ false)
+      (λ s. (k : ℕ) (f : Found) → k < length found → slice_get found k ≡ Some f → is_at_least l (g.level s f.state) ≡ false)
+      (λ s far k f less at. far k f (omega (arith, less, all)) at) left search.drawn;
+  ordered = search.ordered;
+  close = λ i f t at there. let within = slice_get_within found (length found) t there in absurd (omega (arith, within));
+}
 
 -- ---- One found state is drawn to
 
@@ -192,12 +185,12 @@ abbrev pub drawn_to : Steps State → Level → State → State → Bool
 drawn_to g l t s = is_at_least l (g.level s t)
 
 -- a found state by a step to the aim, with what that gives
-abbrev pub new_found : (State → Given) → Level → ℕ → State → Found
-new_found give l n s = record { state = s; level = l; next = Some n; given = give s }
+abbrev pub new_found : (State → Given) → ℕ → ℕ → State → Found
+new_found give m n s = record { state = s; steps = m; next = Some n; given = give s }
 
-new-states : (give : State → Given) (l : Level) (n : ℕ) (xs : List State) → found_states (map (new_found give l n) xs) ≡ xs
-new-states give l n [] = refl
-new-states give l n (x ∷ xs) = ap (λ ys. x ∷ ys) (new-states give l n xs)
+new-states : (give : State → Given) (m n : ℕ) (xs : List State) → found_states (map (new_found give m n) xs) ≡ xs
+new-states give m n [] = refl
+new-states give m n (x ∷ xs) = ap (λ ys. x ∷ ys) (new-states give m n xs)
 
 pub both-all : {X : Type 0} (P Q : X → Type 0) (xs : List X) → All P xs → All Q xs → All (λ x. P x × Q x) xs
 both-all P Q xs p q k d h = (p k d h, q k d h)
@@ -211,7 +204,7 @@ not-false true e = cc
 not-false false e = refl
 
 module _ (g : Steps State) (give : State → Given) (least l : Level) (n : ℕ) (t : Found) (found : List Found) (left : List State)
-    (search : IsSearch g least l found left) (there : slice_get found n ≡ Some t) where
+    (search : IsSearch g least l n found left) (there : slice_get found n ≡ Some t) where
   abbrev r : State → Bool
   r = drawn_to g l t.state
 
@@ -221,103 +214,115 @@ module _ (g : Steps State) (give : State → Given) (least l : Level) (n : ℕ) 
   abbrev kept : List State
   kept = filter (λ s. not (r s)) left
 
+  abbrev fresh : List Found
+  fresh = map (new_found give (t.steps + 1) n) taken
+
   abbrev grown : List Found
-  grown = found ++ map (new_found give l n) taken
+  grown = found ++ fresh
 
-  t_level : is_at_least l t.level ≡ true
-  t_level = All-contains (λ f. is_at_least l f.level ≡ true) found t search.levels (at-contains found t n there)
+  t_found : IsFound g l t
+  t_found = All-contains (IsFound g l) found t search.right (at-contains found t n there)
 
-  t_path : HasPath g l t.state
-  t_path =
-      let f : IsFound g t = All-contains (IsFound g) found t search.right (at-contains found t n there) in
-      (f.path.0, path-weaker g l t.level t_level f.path.0 t.state f.path.1)
-
-  taken_right : (s : State) → (Contains g.states s × ((m : Level) → rank l < rank m → HasNoPath g m s)) × (r s ≡ true)
-      → IsFound g (new_found give l n s)
-  taken_right s h = record {
-    inside = h.0.0;
-    path = (suc t_path.0, more h.0.0 h.1 t_path.1);
-    best = λ m p. by m p (cases_lt (rank l) (rank m));
-  }
+  -- a chain from a state that is left, by way of another state, has more steps than that of the aim
+  farther-by :
+      (m : ℕ) (s u : State) → Contains left s → is_at_least l (g.level s u) ≡ true → Path g l m u →
+      (Contains left u → t.steps + 1 ≤ m) → t.steps + 1 ≤ suc m
+  farther-by m s u inside step rest behind = go (search.covered u (path-state g l rest))
     where
-      by : (m : Level) → HasPath g m s → (rank l < rank m) ⊎ (rank m ≤ rank l) → is_at_least m l ≡ true
-      by m p (inl better) = absurd (h.0.1 m better p.0 p.1)
-      by m p (inr worse) = at-least-below m l worse
+      found_at : (f : Found) → Contains found f → f.state ≡ u → t.steps + 1 ≤ suc m
+      found_at f c is = at (contains-at found f c)
+        where
+          at : (i : ℕ) × (slice_get found i ≡ Some f) → t.steps + 1 ≤ suc m
+          at (i, there_i) = by (cases_lt i n)
+            where
+              by : (i < n) ⊎ (n ≤ i) → t.steps + 1 ≤ suc m
+              by (inl before) =
+                  let far : is_at_least l (g.level s f.state) ≡ false =
+                  All-contains (λ s. (j : ℕ) (f : Found) → j < n → slice_get found j ≡ Some f → is_at_least l (g.level s f.state) ≡ false)
+                  left s search.drawn inside i f before there_i in
+                  let near : is_at_least l (g.level s f.state) ≡ true = ap (λ u. is_at_least l (g.level s u)) is ∙ step in
+                  absurd (let bad : true ≡ false = sym near ∙ far in cc)
+              by (inr from) =
+                  let more_steps = search.ordered n i t f from there there_i in
+                  let fewest = (All-contains (IsFound g l) found f search.right c).shortest m (subst (Path g l m) (sym is) rest) in
+                  omega (arith, more_steps, fewest)
 
-  taken_known : All (λ s. (Contains g.states s × ((m : Level) → rank l < rank m → HasNoPath g m s)) × (r s ≡ true)) taken
+      go : Contains (found_states found) u ⊎ (Contains left u ⊎ IsStuck g least u) → t.steps + 1 ≤ suc m
+      go (inl in_found) = let f = from-map (λ (f : Found). f.state) found u in_found in found_at f.0 f.1 f.2
+      go (inr (inl in_left)) = let b = behind in_left in omega (arith, b)
+      go (inr (inr stuck)) = absurd (stuck l search.level m rest)
+
+  -- each chain from a state that is left has
+  farther : {m : ℕ} {s : State} → Path g l m s → Contains left s → t.steps + 1 ≤ m
+  farther (here {s} c at) inside =
+      absurd (let apart : g.goal s ≡ false = All-contains (λ s. g.goal s ≡ false) left s search.away inside in cc)
+  farther (more {n} {s} {t} c step rest) inside = farther-by n s t inside step rest (farther rest)
+
+  taken_right : (s : State) → Contains left s × (r s ≡ true) → IsFound g l (new_found give (t.steps + 1) n s)
+  taken_right s h =
+      let inside = All-contains (Contains g.states) left s search.inside h.0 in
+      record {
+        inside = inside;
+        path = (suc t_found.path.0, more inside h.1 t_found.path.1);
+        shortest = λ m p. farther p h.0;
+      }
+
+  taken_known : All (λ s. Contains left s × (r s ≡ true)) taken
   taken_known =
-      both-all (λ s. Contains g.states s × ((m : Level) → rank l < rank m → HasNoPath g m s)) (λ s. r s ≡ true) taken
-      (both-all (Contains g.states) (λ s. (m : Level) → rank l < rank m → HasNoPath g m s) taken
-      (All-filter r (Contains g.states) left search.inside)
-      (All-filter r (λ s. (m : Level) → rank l < rank m → HasNoPath g m s) left search.above))
+      both-all (Contains left) (λ s. r s ≡ true) taken (All-filter r (Contains left) left (All-contains_itself left))
       (filter_passes r left)
 
-  grown_linked : AreLinked g grown
-  grown_linked i f at = go (get-append-cases found (map (new_found give l n) taken) i f at)
+  fresh_steps : (f : Found) → Contains fresh f → f.steps ≡ t.steps + 1
+  fresh_steps f c = let s = from-map (new_found give (t.steps + 1) n) taken f c in ap (λ (f : Found). f.steps) (sym s.2)
+
+  grown_linked : AreLinked g l grown
+  grown_linked i f at = go (get-append-cases found fresh i f at)
     where
-      old : (o : Option ℕ) → IsLinked g found i f o → IsLinked g grown i f o
+      old : (o : Option ℕ) → IsLinked g l found i f o → IsLinked g l grown i f o
       old None h = h
       old (Some next) h = (
         h.0,
         record {
-          there = get-append found (map (new_found give l n) taken) next h.0 h.1.there;
+          there = get-append found fresh next h.0 h.1.there;
           before = h.1.before;
-          step =
-              h.1.step;
-          level = h.1.level;
+          step = h.1.step;
+          steps = h.1.steps;
         },
       )
 
-      go : (slice_get found i ≡ Some f) ⊎ ((length found ≤ i) × Contains (map (new_found give l n) taken) f) → IsLinked g grown i f f.next
+      go : (slice_get found i ≡ Some f) ⊎ ((length found ≤ i) × Contains fresh f) → IsLinked g l grown i f f.next
       go (inl before) = old f.next (search.linked i f before)
       go (inr new) =
-          let s = from-map (new_found give l n) taken f new.1 in
+          let s = from-map (new_found give (t.steps + 1) n) taken f new.1 in
           let passes : r s.0 ≡ true = All-contains (λ s. r s ≡ true) taken s.0 (filter_passes r left) s.1 in
           let w = slice_get_within found n t there in
-          subst (λ (h : Found). IsLinked g grown i h h.next) s.2 (
+          subst (λ (h : Found). IsLinked g l grown i h h.next) s.2 (
             t,
             record {
-              there = get-append found (map (new_found give l n) taken) n t there;
+              there = get-append found fresh n t there;
               before = omega (arith, w, new.0);
-              step =
-                  passes;
-              level = t_level;
+              step = passes;
+              steps = refl;
             },
           )
 
   grown_covered : (s : State) → Contains (found_states found) s ⊎ (Contains left s ⊎ IsStuck g least s) → Contains (found_states grown) s
       ⊎ (Contains kept s ⊎ IsStuck g least s)
   grown_covered s (inl in_found) =
-      inl (subst (λ xs. Contains xs s) (sym (map-append (λ (f : Found). f.state) found (map (new_found give l n) taken)))
-      (Contains-append_left (found_states found) (found_states (map (new_found give l n) taken)) s in_found))
+      inl (subst (λ xs. Contains xs s) (sym (map-append (λ (f : Found). f.state) found fresh))
+      (Contains-append_left (found_states found) (found_states fresh) s in_found))
   grown_covered s (inr (inr stuck)) = inr (inr stuck)
   grown_covered s (inr (inl in_left)) = go (r s) refl
     where
       go : (b : Bool) → r s ≡ b → Contains (found_states grown) s ⊎ (Contains kept s ⊎ IsStuck g least s)
       go true e =
-          inl (subst (λ xs. Contains xs s) (sym (map-append (λ (f : Found). f.state) found (map (new_found give l n) taken)))
-          (Contains-append_right (found_states found) (found_states (map (new_found give l n) taken)) s
-          (subst (λ xs. Contains xs s) (sym (new-states give l n taken)) (in-filter r left s in_left e))))
+          inl (subst (λ xs. Contains xs s) (sym (map-append (λ (f : Found). f.state) found fresh))
+          (Contains-append_right (found_states found) (found_states fresh) s
+          (subst (λ xs. Contains xs s) (sym (new-states give (t.steps + 1) n taken)) (in-filter r left s in_left e))))
       go false e = inr (inl (in-filter (λ s. not (r s)) left s in_left (not-false (r s) e)))
 
-  pub drawn-search : IsSearch g least l grown kept
-  drawn-search = record {
-    level = search.level;
-    right = All-append (IsFound g) found (map (new_found give l n) taken) search.right
-        (All-map (IsFound g) (new_found give l n) taken
-        (All-weaker (λ s. (Contains g.states s × ((m : Level) → rank l < rank m → HasNoPath g m s)) × (r s ≡ true))
-        (λ s. IsFound g (new_found give l n s)) taken_right taken taken_known));
-    linked = grown_linked;
-    levels = All-append (λ f. is_at_least l f.level ≡ true) found (map (new_found give l n) taken) search.levels
-        (All-map (λ f. is_at_least l f.level ≡ true) (new_found give l n) taken (λ k d h. at-least-itself l));
-    covered = λ s c. grown_covered s (search.covered s c);
-    inside = All-filter (λ s. not (r s)) (Contains g.states) left search.inside;
-    away = All-filter (λ s. not (r s)) (λ s. g.goal s ≡ false) left search.away;
-    above = All-filter (λ s. not (r s)) (λ s. (m : Level) → rank l < rank m → HasNoPath g m s) left search.above;
-  }
-
-  pub drawn-more : IsDrawn g l n found left → IsDrawn g l (n + 1) grown kept
-  drawn-more drawn =
+  kept_drawn : IsDrawn g l (n + 1) grown kept
+  kept_drawn =
       All-weaker (λ s. ((k : ℕ) (f : Found) → k < n → slice_get found k ≡ Some f → is_at_least l (g.level s f.state) ≡ false)
       × (not (r s) ≡ true))
       (λ s. (k : ℕ) (f : Found) → k < n + 1 → slice_get grown k ≡ Some f → is_at_least l (g.level s f.state) ≡ false)
@@ -325,7 +330,7 @@ module _ (g : Steps State) (give : State → Given) (least l : Level) (n : ℕ) 
       (both-all (λ s. (k : ℕ) (f : Found) → k < n → slice_get found k ≡ Some f → is_at_least l (g.level s f.state) ≡ false)
       (λ s. not (r s) ≡ true) kept
       (All-filter (λ s. not (r s))
-      (λ s. (k : ℕ) (f : Found) → k < n → slice_get found k ≡ Some f → is_at_least l (g.level s f.state) ≡ false) left drawn)
+      (λ s. (k : ℕ) (f : Found) → k < n → slice_get found k ≡ Some f → is_at_least l (g.level s f.state) ≡ false) left search.drawn)
       (filter_passes (λ s. not (r s)) left))
     where
       one :
@@ -338,7 +343,7 @@ module _ (g : Steps State) (give : State → Given) (least l : Level) (n : ℕ) 
           w = slice_get_within found n t there
 
           old : slice_get found k ≡ Some f
-          old = sym (slice_get-append-left found (map (new_found give l n) taken) k (omega (arith, less, w))) ∙ at
+          old = sym (slice_get-append-left found fresh k (omega (arith, less, w))) ∙ at
 
           go : (k < n) ⊎ (n ≤ k) → is_at_least l (g.level s f.state) ≡ false
           go (inl before) = h.0 k f before old
@@ -348,8 +353,57 @@ module _ (g : Steps State) (give : State → Given) (least l : Level) (n : ℕ) 
               let this : t ≡ f = cc in
               ap (λ (f : Found). is_at_least l (g.level s f.state)) (sym this) ∙ not-true (r s) h.1
 
-pub drawn-none : (g : Steps State) (l : Level) (found : List Found) (left : List State) → IsDrawn g l 0 found left
-drawn-none g l found left k d h j f less at = absurd (omega (arith, less))
+  grown_ordered : (i k : ℕ) (f e : Found) → i ≤ k → slice_get grown i ≡ Some f → slice_get grown k ≡ Some e → f.steps ≤ e.steps
+  grown_ordered i k f e before at_i at_k = go (get-append-cases found fresh i f at_i) (get-append-cases found fresh k e at_k)
+    where
+      go :
+          (slice_get found i ≡ Some f) ⊎ ((length found ≤ i) × Contains fresh f) →
+          (slice_get found k ≡ Some e) ⊎ ((length found ≤ k) × Contains fresh e) → f.steps ≤ e.steps
+      go (inl old) (inl old') = search.ordered i k f e before old old'
+      go (inl old) (inr new') =
+          let most = search.close i f t old there in let is = fresh_steps e new'.1 in omega (arith, most, is)
+      go (inr new) (inl old') = let w = slice_get_within found k e old' in absurd (omega (arith, w, new.0, before))
+      go (inr new) (inr new') = let a = fresh_steps f new.1 in let b = fresh_steps e new'.1 in omega (arith, a, b)
+
+  grown_close : (i : ℕ) (f u : Found) → slice_get grown i ≡ Some f → slice_get grown (n + 1) ≡ Some u → f.steps ≤ u.steps + 1
+  grown_close i f u at next = go (get-append-cases found fresh i f at)
+    where
+      later : t.steps ≤ u.steps
+      later = grown_ordered n (n + 1) t u (omega arith) (get-append found fresh n t there) next
+
+      go : (slice_get found i ≡ Some f) ⊎ ((length found ≤ i) × Contains fresh f) → f.steps ≤ u.steps + 1
+      go (inl old) = let most = search.close i f t old there in let l = later in omega (arith, most, l)
+      go (inr new) = let is = fresh_steps f new.1 in let l = later in omega (arith, is, l)
+
+  pub drawn-search : IsSearch g least l (n + 1) grown kept
+  drawn-search = record {
+    level = search.level;
+    right = All-append (IsFound g l) found fresh search.right
+        (All-map (IsFound g l) (new_found give (t.steps + 1) n) taken
+        (All-weaker (λ s. Contains left s × (r s ≡ true))
+        (λ s. IsFound g l (new_found give (t.steps + 1) n s)) taken_right taken taken_known));
+    linked = grown_linked;
+    covered = λ s c. grown_covered s (search.covered s c);
+    inside = All-filter (λ s. not (r s)) (Contains g.states) left search.inside;
+    away = All-filter (λ s. not (r s)) (λ s. g.goal s ≡ false) left search.away;
+    drawn = kept_drawn;
+    ordered = grown_ordered;
+    close = grown_close;
+  }
+
+-- a further step makes no chain longer than there are states before
+pub drawn-deep :
+    (n : ℕ) (t : Found) (found fresh : List Found) → slice_get found n ≡ Some t → AreDeep found →
+    ((f : Found) → Contains fresh f → f.steps ≡ t.steps + 1) → AreDeep (found ++ fresh)
+drawn-deep n t found fresh there deep new i f at = go (get-append-cases found fresh i f at)
+  where
+    go : (slice_get found i ≡ Some f) ⊎ ((length found ≤ i) × Contains fresh f) → f.steps ≤ i
+    go (inl old) = deep i f old
+    go (inr later) =
+        let is = new f later.1 in
+        let few = deep n t there in
+        let w = slice_get_within found n t there in
+        omega (arith, is, few, w, later.0)
 
 -- a list that is parted keeps its length
 pub parted-length : {X : Type 0} (p : X → Bool) (xs : List X) → length (filter p xs) + length (filter (λ x. not (p x)) xs) ≡ length xs
@@ -363,5 +417,5 @@ parted-length {X} p (x ∷ xs) = go (p x) (parted-length p xs)
     go false e = omega (arith, e)
 
 -- each first step leads back
-pub point-back : (g : Steps State) (found : List Found) → AreLinked g found → PointBack found
-point-back g found linked i next f at is = (subst (IsLinked g found i f) is (linked i f at)).1.before
+pub point-back : (g : Steps State) (l : Level) (found : List Found) → AreLinked g l found → PointBack found
+point-back g l found linked i next f at is = (subst (IsLinked g l found i f) is (linked i f at)).1.before

@@ -1,5 +1,5 @@
 -- What a search begins with: the states at the goal, and the candidates that are heard; from no other does a step lead.
-use Rattle.std.proofs.Common.{◌≡◌, ◌<◌, ◌≤◌, ◌∙◌, ℕ, zero, Bool, true, false, not, cond, ◌&&◌, ◌||◌, ◌==◌, List, [], ◌∷◌, ap, arith, refl}
+use Rattle.std.proofs.Common.{◌≡◌, ◌∙◌, ℕ, zero, Bool, true, false, not, cond, ◌&&◌, ◌||◌, ◌==◌, List, [], ◌∷◌, ap, arith, refl}
 use Rattle.std.proofs.Common.{length, map, sym, subst, Option, Some, None, inl, inr, ◌⊎◌}
 use Rattle.std.specs.Prelude.{All, filter, is_some, slice_get}
 use Rattle.std.specs.List.{Contains, list_any, slice_index_or}
@@ -18,11 +18,12 @@ use Rattle.review_roots.specs.declared.search.Sought.{Sought}
 use Rattle.review_roots.specs.declared.state.State.{State}
 use Rattle.review_roots.specs.Blocks.{is_for}
 use Rattle.review_roots.specs.Body.Candidates.{IsSilent, has_state, is_heard, raises_for, states_of}
+use Rattle.review_roots.specs.Body.Found.{AreDeep}
 use Rattle.review_roots.specs.Body.Found.{found_states, found_there, IsCandidate, IsFound, IsLinked, IsMute, IsSearch, IsStartOf}
 use Rattle.review_roots.specs.Body.Found.{AreGiven, HaveNoChain, IsGiven, IsStuck, is_counted, is_left, kept_steps, may_start, starts_or}
 use Rattle.review_roots.specs.Body.May.{may_count}
 use Rattle.review_roots.specs.Chains.{HasNoPath, Steps, Path, here, more}
-use Rattle.review_roots.specs.Ranks.{rank, is_at_least}
+use Rattle.review_roots.specs.Ranks.{is_at_least}
 use Rattle.review_roots.specs.Sought.{any_steps}
 use Rattle.review_roots.specs.States.{given_between, person_of, group_at, level_for, step_given}
 use Rattle.review_roots.proofs.CandidateLemmas.{has-in}
@@ -57,7 +58,7 @@ there-given h xs found is i f at =
 and-false : (r f : Bool) → r ≡ false → (r && f) ≡ false
 and-false r f e = ap (λ b. b && f) e
 
-module _ (h : HostSteps) (q : Sought) where
+module _ (h : HostSteps) (q : Sought) (k : Level) (asked : is_at_least h.least k ≡ true) where
   abbrev g : Steps State
   g = kept_steps h q
 
@@ -123,49 +124,49 @@ module _ (h : HostSteps) (q : Sought) where
         ∙ uncounted h c is q.counted l c.state.user none above (slice_get h.directory.now.people t.user) (group_at h.groups.now t.added),
   )
 
-  mute-stuck : (s : State) → IsMute g h.least s → IsStuck g h.least s
+  mute-stuck : (s : State) → IsMute g h.least s → IsStuck g k s
   mute-stuck s mute l above n p = go p mute
     where
       go : {n : ℕ} {s : State} → Path g l n s → IsMute g h.least s → ⊥
       go (here {s} c at) mute = let away : g.goal s ≡ false = mute.0 in cc
       go (more {n} {s} {t} c step rest) mute =
-          let none : is_at_least l (g.level s t) ≡ false = mute.1 t l above in absurd (let bad : true ≡ false = sym step ∙ none in cc)
+          let none : is_at_least l (g.level s t) ≡ false = mute.1 t l (at-least-trans h.least k l asked above) in absurd (let bad : true ≡ false = sym step ∙ none in cc)
 
   -- ---- No chain of the steps that count leads from a user with no chain of any steps
 
   counted-any :
-      (l : Level) (k : Counted) (user : ℕ) (a : Given) → is_at_least h.least l ≡ true → is_at_least l (level_for k user a) ≡ true →
-      is_at_least h.least a.level ≡ true
-  counted-any l k user a above step = go k step
+      (l : Level) (c : Counted) (user : ℕ) (a : Given) → is_at_least k l ≡ true → is_at_least l (level_for c user a) ≡ true →
+      is_at_least k a.level ≡ true
+  counted-any l c user a above step = go c step
     where
-      either : (b : Bool) → is_at_least l (cond b a.level level.None) ≡ true → is_at_least h.least a.level ≡ true
-      either true step = at-least-trans h.least l a.level above step
+      either : (b : Bool) → is_at_least l (cond b a.level level.None) ≡ true → is_at_least k a.level ≡ true
+      either true step = at-least-trans k l a.level above step
       either false step =
-          at-least-trans h.least level.None a.level (at-least-trans h.least l level.None above step)
+          at-least-trans k level.None a.level (at-least-trans k l level.None above step)
           (at-least-below level.None a.level (omega arith))
 
-      go : (k : Counted) → is_at_least l (level_for k user a) ≡ true → is_at_least h.least a.level ≡ true
-      go counted.Any step = at-least-trans h.least l a.level above step
+      go : (c : Counted) → is_at_least l (level_for c user a) ≡ true → is_at_least k a.level ≡ true
+      go counted.Any step = at-least-trans k l a.level above step
       go counted.Unasked step = either a.unasked step
       go counted.Free step = either a.free step
       go (counted.Own owner) step = either ((user == owner) || a.unasked) step
 
-  any-path : (l : Level) → is_at_least h.least l ≡ true → {n : ℕ} {s : State} → Path g l n s → Path (any_steps h q.target) h.least n s
+  any-path : (l : Level) → is_at_least k l ≡ true → {n : ℕ} {s : State} → Path g l n s → Path (any_steps h q.target) k n s
   any-path l above (here {s} c at) =
       here (All-contains (Contains (any_steps h q.target).states) h.states.now s (host-keeps h).inside c) at
   any-path l above (more {n} {s} {t} c step rest) =
       more (All-contains (Contains (any_steps h q.target).states) h.states.now s (host-keeps h).inside c)
       (counted-any l q.counted s.user (step_given h.checked.now h.directory.now h.host.now h.groups.now s t) above step) (any-path l above rest)
 
-  chainless-stuck : (s : State) → HasNoPath (any_steps h q.target) h.least s → IsStuck g h.least s
+  chainless-stuck : (s : State) → HasNoPath (any_steps h q.target) k s → IsStuck g k s
   chainless-stuck s none l above n p = none n (any-path l above p)
 
-  unstarted-stuck : (starts : List (Option ℕ)) → HaveNoChain h q.target starts → (s : State) → may_start starts s ≡ false
-      → IsStuck g h.least s
+  unstarted-stuck : (starts : List (Option ℕ)) → HaveNoChain h q.target k starts → (s : State) → may_start starts s ≡ false
+      → IsStuck g k s
   unstarted-stuck starts none s e =
       let is = unstarted (slice_get starts s.user) (is_some s.added) e in
       chainless-stuck s
-      (subst (λ o. HasNoPath (any_steps h q.target) h.least (record { user = s.user; added = o })) (sym (none-is s.added is.1))
+      (subst (λ o. HasNoPath (any_steps h q.target) k (record { user = s.user; added = o })) (sym (none-is s.added is.1))
       (none s.user is.0))
 
   -- ---- The search begins
@@ -177,9 +178,9 @@ module _ (h : HostSteps) (q : Sought) where
   counts c = is_counted h q.counted c
 
   pub start-of :
-      (starts : List (Option ℕ)) (found : List Found) (left : List Candidate) → HaveNoChain h q.target starts →
+      (starts : List (Option ℕ)) (found : List Found) (left : List Candidate) → HaveNoChain h q.target k starts →
       found ≡ map found_there (filter at_goal g.states) →
-      left ≡ filter (is_left h q starts) h.candidates.now → IsStartOf h q found left
+      left ≡ filter (is_left h q starts) h.candidates.now → IsStartOf h q k found left
   start-of starts found left chainless finds leaves = record {
     goals = subst (All Goal) (sym finds)
         (All-map Goal found_there (filter at_goal g.states)
@@ -208,16 +209,16 @@ module _ (h : HostSteps) (q : Sought) where
   }
     where
       Goal : Found → Type 0
-      Goal f = (f.level ≡ level.All) × ((f.next ≡ None) × (g.goal f.state ≡ true))
+      Goal f = (f.steps ≡ 0) × ((f.next ≡ None) × (g.goal f.state ≡ true))
 
       Silent : State → Type 0
       Silent s = IsSilent h.checked.now h.directory.now h.groups.now h.least h.blocks.now s
 
       Covered : State → Type 0
-      Covered s = Contains (found_states found) s ⊎ (Contains (states_of left) s ⊎ IsStuck g h.least s)
+      Covered s = Contains (found_states found) s ⊎ (Contains (states_of left) s ⊎ IsStuck g k s)
 
       by_candidate : (s : State) (c : Candidate) → Contains h.candidates.now c → c.state ≡ s → at_goal s ≡ false → (b : Bool)
-          → list_any (λ i. slice_index_or h.on.items i false) c.strong.items ≡ b → (k : Bool) → counts c ≡ k
+          → list_any (λ i. slice_index_or h.on.items i false) c.strong.items ≡ b → (n : Bool) → counts c ≡ n
           → (m : Bool) → may_start starts c.state ≡ m → Covered s
       by_candidate s c inside at away true is true may true begins =
           inr (inl (subst (λ cs. Contains (states_of cs) s) (sym leaves)
@@ -228,16 +229,16 @@ module _ (h : HostSteps) (q : Sought) where
           ∙ ap (λ t. (not (t.user == q.target) && list_any (λ i. slice_index_or h.on.items i false) c.strong.items) && counts c) at
           ∙ ap (λ a. (not a && list_any (λ i. slice_index_or h.on.items i false) c.strong.items) && counts c) away
           ∙ ap (λ a. a && counts c) is ∙ may))))))
-      by_candidate s c inside at away b is k may false begins =
-          inr (inr (subst (IsStuck g h.least) at (unstarted-stuck starts chainless c.state begins)))
+      by_candidate s c inside at away b is n may false begins =
+          inr (inr (subst (IsStuck g k) at (unstarted-stuck starts chainless c.state begins)))
       by_candidate s c inside at away true is false may true begins =
-          inr (inr (subst (IsStuck g h.least) at (mute-stuck c.state
+          inr (inr (subst (IsStuck g k) at (mute-stuck c.state
           (no-step-counts c (All-contains (IsCandidate h) h.candidates.now c h.covered.known inside)
           (neither ((length h.groups.now == 0) && is_at_least level.AllBut h.least)
           (may_count h.on.items h.blocks.now h.least q.counted c.state.user c.listed.items) may).1
           (ap g.goal at ∙ away)))))
-      by_candidate s c inside at away false is k may true begins =
-          inr (inr (subst (IsStuck g h.least) at (mute-stuck c.state
+      by_candidate s c inside at away false is n may true begins =
+          inr (inr (subst (IsStuck g k) at (mute-stuck c.state
           (unheard-mute c (All-contains (IsCandidate h) h.candidates.now c h.covered.known inside) is (ap g.goal at ∙ away)))))
 
       go :
@@ -252,36 +253,37 @@ module _ (h : HostSteps) (q : Sought) where
           (may_start starts c.0.state) refl
       go s inside silent false away false none = inr (inr (mute-stuck s (silent-mute s (silent none) away)))
 
-  rank-most : (l : Level) → rank l ≤ 3
-  rank-most level.None = omega arith
-  rank-most level.Listed = omega arith
-  rank-most level.AllBut = omega arith
-  rank-most level.All = omega arith
-
-  pub start-search : (found : List Found) (left : List Candidate) → IsStartOf h q found left
-      → IsSearch g h.least level.All found (states_of left)
-  start-search found left start = record {
-    level = at-least-below h.least level.All (rank-most h.least);
-    right = All-weaker (λ f. ((f.level ≡ level.All) × ((f.next ≡ None) × (g.goal f.state ≡ true))) × Contains g.states f.state) (IsFound g)
-        (λ f k. record {
-          inside = k.1;
-          path = (zero, here k.1 k.0.1.1);
-          best = λ m p. ap (is_at_least m) k.0.0 ∙ at-least-below m level.All (rank-most m);
+  pub start-search : (l : Level) → is_at_least k l ≡ true → (found : List Found) (left : List Candidate) → IsStartOf h q k found left
+      → IsSearch g k l 0 found (states_of left)
+  start-search l enough found left start = record {
+    level = enough;
+    right = All-weaker (λ f. ((f.steps ≡ 0) × ((f.next ≡ None) × (g.goal f.state ≡ true))) × Contains g.states f.state) (IsFound g l)
+        (λ f is. record {
+          inside = is.1;
+          path = (zero, here is.1 is.0.1.1);
+          shortest = λ n p. let none = is.0.0 in omega (arith, none);
         }) found
-        (both-all (λ f. (f.level ≡ level.All) × ((f.next ≡ None) × (g.goal f.state ≡ true))) (λ f. Contains g.states f.state) found
+        (both-all (λ f. (f.steps ≡ 0) × ((f.next ≡ None) × (g.goal f.state ≡ true))) (λ f. Contains g.states f.state) found
         start.goals start.found_inside);
-    linked = λ i f at.
-        let k = All-contains (λ (f : Found). (f.level ≡ level.All) × ((f.next ≡ None) × (g.goal f.state ≡ true))) found f start.goals
-        (at-contains found f i at) in
-        subst (IsLinked g found i f) (sym k.1.0) k.1.1;
-    levels = All-weaker (λ f. (f.level ≡ level.All) × ((f.next ≡ None) × (g.goal f.state ≡ true)))
-        (λ f. is_at_least level.All f.level ≡ true)
-        (λ f k. ap (is_at_least level.All) k.0) found start.goals;
+    linked = λ i f at. let is = goal_at i f at in subst (IsLinked g l found i f) (sym is.1.0) (is.1.1, is.0);
     covered = λ s c.
-        All-contains (λ s. Contains (found_states found) s ⊎ (Contains (states_of left) s ⊎ IsStuck g h.least s)) g.states s
+        All-contains (λ s. Contains (found_states found) s ⊎ (Contains (states_of left) s ⊎ IsStuck g k s)) g.states s
         start.covered c;
     inside = All-map (Contains g.states) (λ (c : Candidate). c.state) left start.inside;
     away = All-map (λ s. g.goal s ≡ false) (λ (c : Candidate). c.state) left start.away;
-    above = All-map (λ s. (m : Level) → rank level.All < rank m → (n : ℕ) → Path g m n s → ⊥) (λ (c : Candidate). c.state) left
-        (λ k d inside m less n p. let most = rank-most m in omega (arith, less, most));
+    drawn = λ n d inside j f less at. absurd (omega (arith, less));
+    ordered = λ i j f e before at_i at_j. let none = (goal_at i f at_i).0 in omega (arith, none);
+    close = λ i f t at there. let none = (goal_at i f at).0 in omega (arith, none);
   }
+    where
+      goal_at : (i : ℕ) (f : Found) → slice_get found i ≡ Some f → (f.steps ≡ 0) × ((f.next ≡ None) × (g.goal f.state ≡ true))
+      goal_at i f at =
+          All-contains (λ (f : Found). (f.steps ≡ 0) × ((f.next ≡ None) × (g.goal f.state ≡ true))) found f start.goals
+          (at-contains found f i at)
+
+-- the states at the goal have no steps
+pub there-deep : (xs : List State) (found : List Found) → found ≡ map found_there xs → AreDeep found
+there-deep xs found is i f at =
+    let s = from-map found_there xs f (subst (λ fs. Contains fs f) is (at-contains found f i at)) in
+    let none : f.steps ≡ 0 = ap (λ (f : Found). f.steps) (sym s.2) in
+    omega (arith, none)

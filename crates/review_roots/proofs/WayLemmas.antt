@@ -1,6 +1,6 @@
 -- The chain of a found state leads to the goal, and its steps ask for the passwords that are named.
-use Rattle.std.proofs.Common.{◌≡◌, ◌∙◌, ◌⊎◌, ◌||◌, ℕ, Bool, true, false, List, [], ◌∷◌, ◌++◌, ap, append-nil, append_assoc, inl, inr, refl}
-use Rattle.std.proofs.Common.{sym, subst}
+use Rattle.std.proofs.Common.{◌≡◌, ◌∙◌, ◌+◌, ◌⊎◌, ◌||◌, ℕ, Bool, true, false, List, [], ◌∷◌, ◌++◌, ap, append-nil, append_assoc, inl, inr, refl}
+use Rattle.std.proofs.Common.{arith, length, length-append, sym, subst}
 use Rattle.std.proofs.Common.{Some, None}
 use Rattle.std.specs.Prelude.{slice_get}
 use Rattle.review_grants.specs.declared.marks.Marks.{Marks}
@@ -8,6 +8,7 @@ use Rattle.review_grants.specs.Depends.{joined_marks, unmarked}
 use Rattle.review_grants.proofs.NotedLemmas.{same-marks}
 use Rattle.review_roots.specs.declared.given.Given.{Given}
 use Rattle.review_roots.specs.declared.host.HostSteps.{HostSteps}
+use Rattle.review_roots.specs.declared.level.Level.{Level}
 use Rattle.review_roots.specs.declared.search.Found.{Found}
 use Rattle.review_roots.specs.declared.state.State.{State}
 use Rattle.review_roots.specs.declared.way.Password.{Password}
@@ -18,52 +19,52 @@ use Rattle.review_roots.specs.Body.Passing.{HasMarks, HasPassword, HasRow, Leads
 use Rattle.review_roots.specs.Ranks.{is_at_least}
 use Rattle.review_roots.specs.Ways.{first_row, marks_along, worse, step_password, step_on, password_along}
 use Rattle.review_roots.proofs.EffectLemmas.{joined-none}
-use Rattle.review_roots.proofs.SearchLemmas.{at-least-trans, at-least-itself}
 
--- the chain so far, behind which any chain from the state reached leads on
+-- the chain so far, behind which any chain from the state reached leads on; and how many steps are left
 abbrev pub LeadsSoFar : List Found → ℕ → ℕ → List State → Type 0
 LeadsSoFar found index at chain =
-    (g : Steps State) (f t : Found) → AreLinked g found → slice_get found index ≡ Some f → slice_get found at ≡ Some t →
-    (is_at_least f.level t.level ≡ true)
-    × ((rest : List State) → LeadsAlong g f.level t.state rest → LeadsAlong g f.level f.state (chain ++ rest))
+    (g : Steps State) (l : Level) (f t : Found) → AreLinked g l found → slice_get found index ≡ Some f → slice_get found at ≡ Some t →
+    ((rest : List State) → LeadsAlong g l t.state rest → LeadsAlong g l f.state (chain ++ rest)) × (f.steps ≡ length chain + t.steps)
 
 pub leads-first : (found : List Found) (index : ℕ) → LeadsSoFar found index index []
-leads-first found index g f t linked first now =
+leads-first found index g l f t linked first now =
     let is : Some f ≡ Some t = sym first ∙ now in
     let same : f ≡ t = cc in (
-      ap (λ (t : Found). is_at_least f.level t.level) (sym same) ∙ at-least-itself f.level,
-      λ rest leads. subst (λ (t : Found). LeadsAlong g f.level t.state rest) (sym same) leads,
+      λ rest leads. subst (λ (t : Found). LeadsAlong g l t.state rest) (sym same) leads,
+      ap (λ (t : Found). t.steps) same ∙ (let e : t.steps ≡ 0 + t.steps = omega arith in e),
     )
 
 pub leads-more :
     (found : List Found) (index at next : ℕ) (chain : List State) (a b : Found) → slice_get found at ≡ Some a → a.next ≡ Some next →
     slice_get found next ≡ Some b → LeadsSoFar found index at chain → LeadsSoFar found index next (chain ++ b.state ∷ [])
-leads-more found index at next chain a b here is there so_far g f t linked first now =
-    let old = so_far g f a linked first here in
-    let link = subst (IsLinked g found at a) is (linked at a here) in
+leads-more found index at next chain a b here is there so_far g l f t linked first now =
+    let old = so_far g l f a linked first here in
+    let link = subst (IsLinked g l found at a) is (linked at a here) in
     let e : Some b ≡ Some link.0 = sym there ∙ link.1.there in
     let same : b ≡ link.0 = cc in
     let e' : Some b ≡ Some t = sym there ∙ now in
     let same' : b ≡ t = cc in
-    let level : is_at_least a.level t.level ≡ true =
-    ap (λ (t : Found). is_at_least a.level t.level) (sym same' ∙ same) ∙ link.1.level in
-    let step : is_at_least a.level (g.level a.state b.state) ≡ true =
-    ap (λ (t : Found). is_at_least a.level (g.level a.state t.state)) same ∙ link.1.step in (
-      at-least-trans f.level a.level t.level old.0 level,
-      λ rest leads. subst (LeadsAlong g f.level f.state) (sym (append_assoc chain (b.state ∷ []) rest))
-          (old.1 (b.state ∷ rest) (
-            at-least-trans f.level a.level (g.level a.state b.state) old.0 step,
-            subst (λ (t : Found). LeadsAlong g f.level t.state rest) (sym same') leads,
-          )),
+    let step : is_at_least l (g.level a.state b.state) ≡ true =
+    ap (λ (t : Found). is_at_least l (g.level a.state t.state)) same ∙ link.1.step in
+    let fewer : a.steps ≡ t.steps + 1 = link.1.steps ∙ ap (λ (t : Found). t.steps + 1) (sym same ∙ same') in
+    let longer = length-append chain (b.state ∷ []) in
+    let one : length (b.state ∷ []) ≡ 1 = refl in
+    let whole = old.1 in (
+      λ rest leads. subst (LeadsAlong g l f.state) (sym (append_assoc chain (b.state ∷ []) rest))
+          (old.0 (b.state ∷ rest) (step, subst (λ (t : Found). LeadsAlong g l t.state rest) (sym same') leads)),
+      omega (arith, whole, fewer, longer, one),
     )
 
 pub leads-all :
     (found : List Found) (index at : ℕ) (chain : List State) (a : Found) → slice_get found at ≡ Some a → a.next ≡ None
     → LeadsSoFar found index at chain →
     LeadsWhole found index chain
-leads-all found index at chain a here is so_far g f linked first =
-    let old = so_far g f a linked first here in
-    subst (LeadsAlong g f.level f.state) (append-nil chain) (old.1 [] (subst (IsLinked g found at a) is (linked at a here)))
+leads-all found index at chain a here is so_far g l f linked first =
+    let old = so_far g l f a linked first here in
+    let goal = subst (IsLinked g l found at a) is (linked at a here) in (
+      subst (LeadsAlong g l f.state) (append-nil chain) (old.0 [] goal.0),
+      (let whole = old.1 in let none = goal.1 in omega (arith, whole, none)),
+    )
 
 -- ---- Passwords
 

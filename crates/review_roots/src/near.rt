@@ -1,22 +1,26 @@
 //! Which users are one step, of any kind, from a chain whose steps may all go without a password: from no other user does a chain lead
 //! that asks for nobody else's.
-ghost use Rattle.std.specs.Prelude.{◌≡◌, All, IfOk, get_or, length, true};
+ghost use Rattle.std.specs.Prelude.{◌≡◌, All, IfOk, IsTrue, get_or, length, true};
+ghost use Rattle.review_roots.specs.Ranks.{is_at_least};
 ghost use Rattle.review_roots.specs.Body.Found.{AreNear, AreNearTo, marked};
 
+use crate::Level;
 use crate::given::Counted;
 use crate::host::HostSteps;
 use crate::search::{Aim, Found, Sought, draw_to, heard};
 use std::alloc::{AllocError, Global};
 
-// Returns the states of the candidates with a step, of any kind, to one of those that are found.
+// Returns the states of the candidates with a step of the level, of any kind, to one of those that are found.
 fn near_states(
     alloc: Global,
     steps: &HostSteps<'_, '_>,
     target: usize,
+    level: Level,
     starts: &[Option<usize>],
     found: &[Found],
 ) -> Result<Vec<Found>, AllocError>
-    ensures { IfOk result (λ near. AreNearTo steps.now target starts.now found.now near.items) }
+    requires level { IsTrue (is_at_least steps.now.least level) }
+    ensures { IfOk result (λ near. AreNearTo steps.now target level starts.now found.now near.items) }
 {
     let sought = Sought {
         target,
@@ -28,8 +32,9 @@ fn near_states(
         let aim = Aim {
             index,
             state: found[index].state,
-            level: steps.least,
+            level,
             counted: Counted::Any,
+            steps: 0,
         };
         left = draw_to(alloc, steps, aim, &left, &mut near)?;
     }
@@ -74,18 +79,20 @@ fn users_of(alloc: Global, users: usize, found: &[Found]) -> Result<Vec<bool>, A
     Ok(marks)
 }
 
-/// Returns for each user whether a step of one of its states, of any kind, leads to one of those that are found; of the users alone
-/// that have a start. Returns `AllocError` if allocation fails.
+/// Returns for each user whether a step of the level of one of its states, of any kind, leads to one of those that are found; of the
+/// users alone that have a start. Returns `AllocError` if allocation fails.
 pub(crate) fn near_users(
     alloc: Global,
     steps: &HostSteps<'_, '_>,
     target: usize,
+    level: Level,
     starts: &[Option<usize>],
     found: &[Found],
 ) -> Result<Vec<bool>, AllocError>
-    ensures { IfOk result (λ near. AreNear steps.now target starts.now found.now near.items) }
+    requires level { IsTrue (is_at_least steps.now.least level) }
+    ensures { IfOk result (λ near. AreNear steps.now target level starts.now found.now near.items) }
 {
-    let near = near_states(alloc, steps, target, starts, found)?;
+    let near = near_states(alloc, steps, target, level, starts, found)?;
     let marks = users_of(alloc, steps.directory.people().len(), &near)?;
     Ok(marks)
 }

@@ -1,13 +1,17 @@
 //! Who can become a target on a host.
-ghost use Rattle.std.specs.Prelude.{◌≡◌, ◌<◌, IfOk, MatchOption, Some, None, length};
+ghost use Rattle.std.specs.Prelude.{◌≡◌, ◌<◌, IfOk, IsTrue, MatchOption, Some, None, length, true};
+ghost use Rattle.review_roots.specs.Chains.{HasNoPath};
+ghost use Rattle.review_roots.specs.Ranks.{is_at_least};
+ghost use Rattle.review_roots.specs.Sought.{any_steps, free_steps, unasked_steps};
 ghost use Rattle.review_roots.specs.States.{state_with};
-ghost use Rattle.review_roots.specs.Ways.{IsWay};
-ghost use Rattle.review_roots.specs.Body.Found.{AreChains, AreStarts, ChainsLead, IsAsked, IsEachAsked, IsFoundAt, IsGoodAt, is_start};
-ghost use Rattle.review_roots.specs.Body.Passing.{IsBestOf};
+ghost use Rattle.review_roots.specs.Ways.{IsChain, IsWay};
+ghost use Rattle.review_roots.specs.Body.Found.{AreLevels, ChainsLead, IsBest, IsFoundAt, any_sought, is_start};
 ghost use Rattle.review_roots.specs.Roots.{AreRoots, IsRootAt, IsNoRoot, has_zero};
+ghost use Rattle.review_roots.specs.declared.chains.Chains.{Chains as TheChains};
+ghost use Rattle.review_roots.specs.declared.level.Level.TheVariants as level;
 
 use crate::Level;
-use crate::chains::{Chains, search};
+use crate::chains::{Chains, Levels, levels_of};
 use crate::given::Counted;
 use crate::host::HostSteps;
 use crate::near::is_near;
@@ -36,20 +40,6 @@ fn has_zero(steps: &HostSteps<'_, '_>, user: usize) -> bool
     }
 }
 
-// Returns the index of the user without an added group among the found states, if its chain has the level or a better one.
-fn good_index(found: &[Found], starts: &[Option<usize>], user: usize, level: Level) -> Option<usize>
-    requires starts { AreStarts found.now starts.now }
-    requires known { user < length starts.now }
-    ensures { IsGoodAt found.now user level result }
-{
-    let index = start_at(starts, user)?;
-    if found[index].level.is_at_least(level) {
-        Some(index)
-    } else {
-        None
-    }
-}
-
 // Whether the state is that of the user without an added group.
 fn is_start(state: State, user: usize) -> bool
     ensures { result ≡ is_start user state }
@@ -69,118 +59,204 @@ fn start_index(found: &[Found], user: usize) -> Option<usize>
     None
 }
 
-// Returns the same, if its chain has the level or a better one.
-fn own_index(found: &[Found], user: usize, level: Level) -> Option<usize>
-    ensures { IsGoodAt found.now user level result }
-{
-    let index = start_index(found, user)?;
-    let own = found[index].level;
-    if own.is_at_least(level) {
-        Some(index)
-    } else {
-        None
-    }
-}
-
-// Returns a chain from the user of the level of this one that asks for nobody else's password, or else this one.
+// Returns a chain from the user of the level that asks for nobody else's password, or else this one.
 fn own_way(
     alloc: Global,
     steps: &HostSteps<'_, '_>,
     target: usize,
-    chains: &Chains,
+    level: Level,
     user: usize,
-    index: usize,
     way: Way,
 ) -> Result<Way, AllocError>
-    requires lead { ChainsLead steps.now target chains.now }
-    requires start { IsFoundAt chains.now.any.items user (Some index) }
-    requires asked { IsEachAsked chains.now user index }
-    requires way { IsBestOf steps.now target chains.now user index way }
-    ensures { IfOk result (λ way. IsWay steps.now target steps.now.least (state_with None user) way) }
+    requires enough { IsTrue (is_at_least steps.now.least level) }
+    requires known { user < length steps.now.directory.now.people }
+    requires best { IsBest steps.now target level user }
+    requires free { HasNoPath (free_steps steps.now target) level (state_with None user) }
+    requires unasked { HasNoPath (unasked_steps steps.now target) level (state_with None user) }
+    requires level { way.level ≡ level }
+    requires way { IsChain steps.now (any_sought target) (state_with None user) way }
+    ensures { IfOk result (λ way. IsWay steps.now target steps.now.least (state_with None user)
+        way) }
 {
     let sought = Sought {
         target,
         counted: Counted::Own(user),
     };
-    let own = found_of(alloc, steps, sought, &[])?;
-    match own_index(&own, user, way.level) {
-        Some(index) => way_of(alloc, steps, &own, index),
+    let own = found_of(alloc, steps, sought, level, &[])?;
+    match start_index(&own, user) {
+        Some(index) => way_of(alloc, steps, level, &own, index),
         None => Ok(way),
     }
 }
 
-// Returns the chain of a found state that is the user without an added group, where each chain of its level asks for a password: one that
-// asks for nobody else's, if there is one of its level.
+// Returns the chain of a found state that is the user without an added group, where each chain of the level asks for a password: one
+// that asks for nobody else's, if there is one.
 fn asking_way(
     alloc: Global,
     steps: &HostSteps<'_, '_>,
     target: usize,
+    level: Level,
     chains: &Chains,
     user: usize,
     index: usize,
 ) -> Result<Way, AllocError>
-    requires chains { AreChains steps.now chains.now }
-    requires lead { ChainsLead steps.now target chains.now }
+    requires lead { ChainsLead steps.now target level chains.now }
     requires away { user ≡ target → ⊥ }
+    requires known { user < length steps.now.directory.now.people }
+    requires best { IsBest steps.now target level user }
     requires start { IsFoundAt chains.now.any.items user (Some index) }
-    requires asked { IsEachAsked chains.now user index }
-    ensures { IfOk result (λ way. IsWay steps.now target steps.now.least (state_with None user) way) }
+    requires free { HasNoPath (free_steps steps.now target) level (state_with None user) }
+    requires unasked { HasNoPath (unasked_steps steps.now target) level (state_with None user) }
+    ensures { IfOk result (λ way. IsWay steps.now target steps.now.least (state_with None user)
+        way) }
 {
-    let way = way_of(alloc, steps, &chains.any, index)?;
+    let way = way_of(alloc, steps, level, &chains.any, index)?;
     if !way.password.is_other() {
         return Ok(way);
     }
     if !is_near(&chains.near, user) {
         return Ok(way);
     }
-    own_way(alloc, steps, target, chains, user, index, way)
+    own_way(alloc, steps, target, level, user, way)
 }
 
-// Returns the chain of a found state that is the user without an added group, where no chain of its level asks for no password:
-// one whose steps may go without, if one has its level.
+// Returns the chain of a found state that is the user without an added group, where no chain of the level asks for no password: one
+// whose steps may go without, if there is one.
 fn asked_way(
     alloc: Global,
     steps: &HostSteps<'_, '_>,
     target: usize,
+    level: Level,
     chains: &Chains,
     user: usize,
     index: usize,
 ) -> Result<Way, AllocError>
-    requires chains { AreChains steps.now chains.now }
-    requires lead { ChainsLead steps.now target chains.now }
+    requires lead { ChainsLead steps.now target level chains.now }
     requires away { user ≡ target → ⊥ }
     requires known { user < length steps.now.directory.now.people }
+    requires best { IsBest steps.now target level user }
     requires start { IsFoundAt chains.now.any.items user (Some index) }
-    requires asked { IsAsked chains.now user index }
-    ensures { IfOk result (λ way. IsWay steps.now target steps.now.least (state_with None user) way) }
+    requires free { HasNoPath (free_steps steps.now target) level (state_with None user) }
+    ensures { IfOk result (λ way. IsWay steps.now target steps.now.least (state_with None user)
+        way) }
 {
-    let level = chains.any[index].level;
-    match good_index(&chains.unasked, &chains.unasked_starts, user, level) {
-        Some(index) => way_of(alloc, steps, &chains.unasked, index),
-        None => asking_way(alloc, steps, target, chains, user, index),
+    match start_at(&chains.unasked_starts, user) {
+        Some(index) => way_of(alloc, steps, level, &chains.unasked, index),
+        None => asking_way(alloc, steps, target, level, chains, user, index),
     }
 }
 
-// Returns the chain of a found state that is the user without an added group: one without passwords, if one has its level.
+// Returns the chain of a found state that is the user without an added group: one without passwords, if there is one of the level.
 fn best_way(
     alloc: Global,
     steps: &HostSteps<'_, '_>,
     target: usize,
+    level: Level,
     chains: &Chains,
     user: usize,
     index: usize,
 ) -> Result<Way, AllocError>
-    requires chains { AreChains steps.now chains.now }
-    requires lead { ChainsLead steps.now target chains.now }
+    requires lead { ChainsLead steps.now target level chains.now }
     requires away { user ≡ target → ⊥ }
     requires known { user < length steps.now.directory.now.people }
+    requires best { IsBest steps.now target level user }
     requires start { IsFoundAt chains.now.any.items user (Some index) }
-    ensures { IfOk result (λ way. IsWay steps.now target steps.now.least (state_with None user) way) }
+    ensures { IfOk result (λ way. IsWay steps.now target steps.now.least (state_with None user)
+        way) }
 {
-    let level = chains.any[index].level;
-    match good_index(&chains.free, &chains.free_starts, user, level) {
-        Some(index) => way_of(alloc, steps, &chains.free, index),
-        None => asked_way(alloc, steps, target, chains, user, index),
+    match start_at(&chains.free_starts, user) {
+        Some(index) => way_of(alloc, steps, level, &chains.free, index),
+        None => asked_way(alloc, steps, target, level, chains, user, index),
+    }
+}
+
+// Returns the best chain from the user, if there is one of the level, where there is none of a better one.
+fn way_at(
+    alloc: Global,
+    steps: &HostSteps<'_, '_>,
+    target: usize,
+    level: Level,
+    chains: &Chains,
+    user: usize,
+) -> Result<Option<Way>, AllocError>
+    requires lead { ChainsLead steps.now target level chains.now }
+    requires away { user ≡ target → ⊥ }
+    requires known { user < length steps.now.directory.now.people }
+    requires best { IsBest steps.now target level user }
+    ensures { IfOk result (λ way. MatchOption way (HasNoPath (any_steps steps.now target) level
+        (state_with None user)) (IsWay steps.now target steps.now.least (state_with None user))) }
+{
+    match start_at(&chains.any_starts, user) {
+        None => Ok(None),
+        Some(index) => Ok(Some(best_way(alloc, steps, target, level, chains, user, index)?)),
+    }
+}
+
+// Returns the same, where there may be no chains of the level.
+fn way_below(
+    alloc: Global,
+    steps: &HostSteps<'_, '_>,
+    target: usize,
+    level: Level,
+    chains: &Option<Chains>,
+    user: usize,
+) -> Result<Option<Way>, AllocError>
+    requires lead { (c : TheChains) → chains.now ≡ Some c → ChainsLead steps.now target level c }
+    requires none { chains.now ≡ None → is_at_least steps.now.least level ≡ true
+        → HasNoPath (any_steps steps.now target) level (state_with None user) }
+    requires away { user ≡ target → ⊥ }
+    requires known { user < length steps.now.directory.now.people }
+    requires best { is_at_least steps.now.least level ≡ true → IsBest steps.now target level user }
+    ensures { IfOk result (λ way. MatchOption way (is_at_least steps.now.least level ≡ true
+        → HasNoPath (any_steps steps.now target) level (state_with None user))
+        (IsWay steps.now target steps.now.least (state_with None user))) }
+{
+    match chains {
+        Some(chains) => way_at(alloc, steps, target, level, chains, user),
+        None => Ok(None),
+    }
+}
+
+// Returns the best chain from the user, if there is one of the level `AllBut` or of `Listed`, where there is none of `All`.
+fn way_lower(
+    alloc: Global,
+    steps: &HostSteps<'_, '_>,
+    target: usize,
+    levels: &Levels,
+    user: usize,
+) -> Result<Option<Way>, AllocError>
+    requires levels { AreLevels steps.now target levels.now }
+    requires away { user ≡ target → ⊥ }
+    requires known { user < length steps.now.directory.now.people }
+    requires none { HasNoPath (any_steps steps.now target) level.All (state_with None user) }
+    ensures { IfOk result (λ way. MatchOption way (HasNoPath (any_steps steps.now target)
+        steps.now.least (state_with None user)) (IsWay steps.now target steps.now.least
+        (state_with None user))) }
+{
+    match way_below(alloc, steps, target, Level::AllBut, &levels.all_but, user)? {
+        Some(way) => Ok(Some(way)),
+        None => way_below(alloc, steps, target, Level::Listed, &levels.listed, user),
+    }
+}
+
+// Returns the best chain from the user, if there is one of the least level or a better one.
+fn way_from(
+    alloc: Global,
+    steps: &HostSteps<'_, '_>,
+    target: usize,
+    levels: &Levels,
+    user: usize,
+) -> Result<Option<Way>, AllocError>
+    requires levels { AreLevels steps.now target levels.now }
+    requires away { user ≡ target → ⊥ }
+    requires known { user < length steps.now.directory.now.people }
+    ensures { IfOk result (λ way. MatchOption way (HasNoPath (any_steps steps.now target)
+        steps.now.least (state_with None user)) (IsWay steps.now target steps.now.least
+        (state_with None user))) }
+{
+    match way_at(alloc, steps, target, Level::All, &levels.all, user)? {
+        Some(way) => Ok(Some(way)),
+        None => way_lower(alloc, steps, target, levels, user),
     }
 }
 
@@ -189,11 +265,10 @@ fn root_of(
     alloc: Global,
     steps: &HostSteps<'_, '_>,
     target: usize,
-    chains: &Chains,
+    levels: &Levels,
     user: usize,
 ) -> Result<Option<Root>, AllocError>
-    requires chains { AreChains steps.now chains.now }
-    requires lead { ChainsLead steps.now target chains.now }
+    requires levels { AreLevels steps.now target levels.now }
     requires known { user < length steps.now.directory.now.people }
     ensures { IfOk result (λ root. MatchOption root (IsNoRoot steps.now target steps.now.least user)
         (IsRootAt steps.now target steps.now.least user)) }
@@ -201,11 +276,11 @@ fn root_of(
     if user == target || has_zero(steps, user) {
         return Ok(Some(Root { user, way: None }));
     }
-    match start_at(&chains.any_starts, user) {
+    match way_from(alloc, steps, target, levels, user)? {
         None => Ok(None),
-        Some(index) => Ok(Some(Root {
+        Some(way) => Ok(Some(Root {
             user,
-            way: Some(best_way(alloc, steps, target, chains, user, index)?),
+            way: Some(way),
         })),
     }
 }
@@ -215,7 +290,7 @@ fn root_of(
 ///
 /// The chain that is given has the best level of all from the user, however long. Of those of that level none asks for less: it asks
 /// for no password, if one does not; otherwise its steps may go without, if those of one may; otherwise it asks for the user's own
-/// alone, if one does. From a user that is not among them no chain of the least level leads to the target, however long.
+/// alone, if one does. Of those of that level that ask for no more none has fewer steps. From a user that is not among them no chain of the least level leads to the target, however long.
 ///
 /// Returns `AllocError` if allocation fails.
 pub fn roots_on(
@@ -225,10 +300,10 @@ pub fn roots_on(
 ) -> Result<Vec<Root>, AllocError>
     ensures { IfOk result (λ roots. AreRoots steps.now target steps.now.least roots.items) }
 {
-    let chains = search(alloc, steps, target)?;
+    let levels = levels_of(alloc, steps, target)?;
     let mut roots = Vec::new(alloc);
     for user in 0..steps.directory.people().len() {
-        if let Some(root) = root_of(alloc, steps, target, &chains, user)? {
+        if let Some(root) = root_of(alloc, steps, target, &levels, user)? {
             roots.push(root)?;
         }
     }

@@ -3,12 +3,13 @@ ghost use Rattle.std.specs.Prelude.{◌≡◌, ◌<◌, ◌+◌, ◌++◌, ◌==
 ghost use Rattle.std.specs.Prelude.{None, Some, false};
 ghost use Rattle.review_roots.specs.Sought.{steps_of};
 ghost use Rattle.review_roots.specs.Body.Candidates.{states_of};
-ghost use Rattle.review_roots.specs.Body.Found.{AreFound, AreGiven, HaveNoChain, HaveNoPath, IsCandidate, IsSearch};
-ghost use Rattle.review_roots.specs.Body.Found.{IsStartOf, found_by, found_there, is_left, kept_steps, may_start, reaches};
+ghost use Rattle.review_roots.specs.Body.Found.{AreDeep, AreFound, AreGiven, HaveNoChain, IsCandidate, IsDrawn, IsSearch};
+ghost use Rattle.review_roots.specs.Body.Found.{found_by, found_there, is_left, kept_steps, may_start, reaches};
 ghost use Rattle.review_roots.specs.Body.Towards.{IsToward};
 ghost use Rattle.review_roots.specs.Ranks.{is_at_least};
 ghost use Rattle.review_roots.specs.Ways.{step_on};
 ghost use Rattle.review_roots.specs.declared.given.Given.{Given as TheGiven};
+ghost use Rattle.review_roots.specs.declared.level.Level.{Level as TheLevel};
 
 use crate::Level;
 use crate::candidate::Candidate;
@@ -18,12 +19,12 @@ use crate::state::State;
 use crate::toward::Toward;
 use std::alloc::{AllocError, Global};
 
-/// A state from which a chain of steps leads to the target: the level of the chain; the index of the found state to which its first
-/// step leads, or none if the state is at the target; and what that step gives.
+/// A state from which a chain of steps leads to the target: the number of its steps; the index of the found state to which the first
+/// one leads, or none if the state is at the target; and what that step gives.
 #[derive(Clone, Copy, Debug, PartialEq, Eq)]
 pub(crate) struct Found {
     pub(crate) state: State,
-    pub(crate) level: Level,
+    pub(crate) steps: usize,
     pub(crate) next: Option<usize>,
     pub(crate) given: Given,
 }
@@ -35,13 +36,15 @@ pub(crate) struct Sought {
     pub(crate) counted: Counted,
 }
 
-/// A found state to which steps are sought: its index, the state, the level of the steps, and which of them count.
+/// A found state to which steps are sought: its index, the state, the level of the steps, which of them count, and how many steps a
+/// chain has that begins with one.
 #[derive(Clone, Copy)]
 pub(crate) struct Aim {
     pub(crate) index: usize,
     pub(crate) state: State,
     pub(crate) level: Level,
     pub(crate) counted: Counted,
+    pub(crate) steps: usize,
 }
 
 // Returns what the step of the candidate to the state gives, if it has the level or a better one.
@@ -98,7 +101,7 @@ fn draw<'c>(
         match reached(steps, aim, toward, candidate) {
             Some(given) => found.push(Found {
                 state: candidate.state,
-                level: aim.level,
+                steps: aim.steps,
                 next: Some(aim.index),
                 given,
             })?,
@@ -147,74 +150,8 @@ pub(crate) fn draw_to<'c>(
     }
 }
 
-// Moves the candidates with a step of the level to a found state to those that are found, and returns the others. A state that is
-// not at the target and has an added group moves none.
-fn draw_alone<'c>(
-    alloc: Global,
-    steps: &HostSteps<'_, '_>,
-    sought: Sought,
-    level: Level,
-    index: usize,
-    left: Vec<&'c Candidate>,
-    found: &mut Vec<Found>,
-) -> Result<Vec<&'c Candidate>, AllocError>
-    requires inside { index < length found.now.items }
-    requires candidates { All (IsCandidate steps.now) (map (λ c. c.now) left.items) }
-    requires given { AreGiven steps.now found.now.items }
-    requires search { IsSearch (kept_steps steps.now sought) steps.now.least level
-        found.now.items (states_of (map (λ c. c.now) left.items)) }
-    ensures candidates { IfOk result (λ rest. All (IsCandidate steps.now)
-        (map (λ c. c.now) rest.items)) }
-    ensures given { OnOk result (AreGiven steps.now found.new.items) }
-    ensures search { IfOk result (λ rest. IsSearch (kept_steps steps.now sought)
-        steps.now.least level found.new.items (states_of (map (λ c. c.now) rest.items))) }
-    ensures moved { IfOk result (λ rest. length rest.items + length found.new.items
-        ≡ length left.entry.items + length found.old.items) }
-{
-    let state = found[index].state;
-    if state.added.is_some() && found[index].next.is_some() {
-        return Ok(left);
-    }
-    let aim = Aim {
-        index,
-        state,
-        level,
-        counted: sought.counted,
-    };
-    let rest = draw_to(alloc, steps, aim, &left, found)?;
-    Ok(rest)
-}
-
-// Moves the candidates from which steps of at least this level lead to a found state, by states at the target or without an added
-// group, to those that are found, and returns the others. This finds most candidates, by way of few states.
-fn spread_alone<'c>(
-    alloc: Global,
-    steps: &HostSteps<'_, '_>,
-    sought: Sought,
-    level: Level,
-    left: Vec<&'c Candidate>,
-    found: &mut Vec<Found>,
-) -> Result<Vec<&'c Candidate>, AllocError>
-    requires candidates { All (IsCandidate steps.now) (map (λ c. c.now) left.items) }
-    requires given { AreGiven steps.now found.now.items }
-    requires search { IsSearch (kept_steps steps.now sought) steps.now.least level
-        found.now.items (states_of (map (λ c. c.now) left.items)) }
-    ensures candidates { IfOk result (λ rest. All (IsCandidate steps.now)
-        (map (λ c. c.now) rest.items)) }
-    ensures given { OnOk result (AreGiven steps.now found.new.items) }
-    ensures search { IfOk result (λ rest. IsSearch (kept_steps steps.now sought)
-        steps.now.least level found.new.items (states_of (map (λ c. c.now) rest.items))) }
-{
-    let mut left = left;
-    let mut index = 0;
-    while index < found.len() {
-        left = draw_alone(alloc, steps, sought, level, index, left, found)?;
-        index += 1;
-    }
-    Ok(left)
-}
-
-// Finds the candidates from which steps of the level, or a better one, lead to what is found, and returns the others.
+// Finds the candidates from which steps of the level, or of a better one, lead to what is found, those with the shortest chains first,
+// and returns the others.
 fn spread<'c>(
     alloc: Global,
     steps: &HostSteps<'_, '_>,
@@ -223,27 +160,33 @@ fn spread<'c>(
     left: Vec<&'c Candidate>,
     found: &mut Vec<Found>,
 ) -> Result<Vec<&'c Candidate>, AllocError>
+    requires level { IsTrue (is_at_least steps.now.least level) }
     requires candidates { All (IsCandidate steps.now) (map (λ c. c.now) left.items) }
     requires given { AreGiven steps.now found.old.items }
-    requires search { IsSearch (kept_steps steps.now sought) steps.now.least level
-        found.old.items (states_of (map (λ c. c.now) left.items)) }
+    requires deep { AreDeep found.old.items }
     ensures candidates { IfOk result (λ rest. All (IsCandidate steps.now)
         (map (λ c. c.now) rest.items)) }
     ensures given { OnOk result (AreGiven steps.now found.new.items) }
-    ensures search { IfOk result (λ rest. IsSearch (kept_steps steps.now sought)
-        steps.now.least level found.new.items (states_of (map (λ c. c.now) rest.items))) }
-    ensures done { IfOk result (λ rest. HaveNoPath (kept_steps steps.now sought) level
-        (states_of (map (λ c. c.now) rest.items))) }
+    ensures search { IfOk result (λ rest. (k : TheLevel) → IsSearch (kept_steps steps.now sought) k
+        level 0 found.old.items (states_of (map (λ c. c.now) left.entry.items))
+        → IsSearch (kept_steps steps.now sought) k level (length found.new.items)
+        found.new.items (states_of (map (λ c. c.now) rest.items))) }
 {
-    let rest = spread_alone(alloc, steps, sought, level, left, found)?;
-    let mut left = rest;
+    let mut left = left;
     let mut index = 0;
     while index < found.len() {
+        let Found {
+            state,
+            steps: count,
+            next: _,
+            given: _,
+        } = found[index];
         let aim = Aim {
             index,
-            state: found[index].state,
+            state,
             level,
             counted: sought.counted,
+            steps: count + 1,
         };
         left = draw_to(alloc, steps, aim, &left, found)?;
         index += 1;
@@ -265,7 +208,7 @@ fn found_at(
         if state.user == target {
             found.push(Found {
                 state: *state,
-                level: Level::All,
+                steps: 0,
                 next: None,
                 given: NOTHING,
             })?;
@@ -320,50 +263,125 @@ pub(crate) fn heard<'r>(
     Ok(left)
 }
 
-// Finds the candidates from which a chain of steps of the least level, or a better one, leads to the target: level by level.
-fn search_levels(
-    alloc: Global,
-    steps: &HostSteps<'_, '_>,
-    sought: Sought,
-    left: Vec<&Candidate>,
-    found: &mut Vec<Found>,
-) -> Result<(), AllocError>
-    requires start { IsStartOf steps.now sought found.old.items (map (λ c. c.now) left.items) }
-    requires given { AreGiven steps.now found.old.items }
-    ensures found { OnOk result (AreFound (kept_steps steps.now sought) steps.now.states.now
-        steps.now.least found.new.items) }
-    ensures given { OnOk result (AreGiven steps.now found.new.items) }
-{
-    let left = spread(alloc, steps, sought, Level::All, left, found)?;
-    match steps.least {
-        Level::All => Ok(()),
-        Level::AllBut => {
-            spread(alloc, steps, sought, Level::AllBut, left, found)?;
-            Ok(())
-        }
-        _ => {
-            let left = spread(alloc, steps, sought, Level::AllBut, left, found)?;
-            spread(alloc, steps, sought, Level::Listed, left, found)?;
-            Ok(())
-        }
-    }
+/// What a search leaves: the states that are found, and the candidates that are left.
+#[derive(Drop)]
+pub(crate) struct Reach<'c> {
+    pub(crate) found: Vec<Found>,
+    pub(crate) left: Vec<&'c Candidate>,
 }
 
-/// Returns the states from which a chain of the steps that count, of the least level or a better one, leads to the target, each
-/// with the best level of such a chain. A user without a start is passed over.
+/// Returns the states from which a chain of the steps that count, of the level or a better one, leads to the target, each with a
+/// shortest such chain; and the candidates that are left. A user without a start is passed over.
+///
+/// Returns `AllocError` if allocation fails.
+pub(crate) fn spread_of<'r>(
+    alloc: Global,
+    steps: &HostSteps<'r, '_>,
+    sought: Sought,
+    level: Level,
+    starts: &[Option<usize>],
+) -> Result<Reach<'r>, AllocError>
+    requires level { IsTrue (is_at_least steps.now.least level) }
+    ensures candidates { IfOk result (λ spread. All (IsCandidate steps.now)
+        (map (λ c. c.now) spread.left.items)) }
+    ensures given { IfOk result (λ spread. AreGiven steps.now spread.found.items) }
+    ensures search { IfOk result (λ spread. (k : TheLevel) → is_at_least steps.now.least k ≡ true
+        → is_at_least k level ≡ true → HaveNoChain steps.now sought.target k starts.now
+        → IsSearch (kept_steps steps.now sought) k level (length spread.found.items)
+        spread.found.items (states_of (map (λ c. c.now) spread.left.items))) }
+{
+    let mut found = found_at(alloc, steps, sought.target)?;
+    let left = heard(alloc, steps, sought, starts)?;
+    let rest = spread(alloc, steps, sought, level, left, &mut found)?;
+    Ok(Reach { found, left: rest })
+}
+
+/// Returns the states from which a chain of the steps that count, of the level or a better one, leads to the target, each with a
+/// shortest such chain. A user without a start is passed over.
+///
+/// Returns `AllocError` if allocation fails.
 pub(crate) fn found_of(
     alloc: Global,
     steps: &HostSteps<'_, '_>,
     sought: Sought,
+    level: Level,
     starts: &[Option<usize>],
 ) -> Result<Vec<Found>, AllocError>
-    requires starts { HaveNoChain steps.now sought.target starts.now }
+    requires level { IsTrue (is_at_least steps.now.least level) }
+    requires starts { HaveNoChain steps.now sought.target level starts.now }
     ensures found { IfOk result (λ found. AreFound (steps_of steps.now sought) steps.now.states.now
-        steps.now.least found.items) }
+        level found.items) }
     ensures given { IfOk result (λ found. AreGiven steps.now found.items) }
 {
-    let mut found = found_at(alloc, steps, sought.target)?;
-    let left = heard(alloc, steps, sought, starts)?;
-    search_levels(alloc, steps, sought, left, &mut found)?;
+    let Reach { found, left: _ } = spread_of(alloc, steps, sought, level, starts)?;
     Ok(found)
+}
+
+// Whether a candidate has a step to the aim.
+fn is_reached(steps: &HostSteps<'_, '_>, aim: Aim, toward: &Toward, left: &[&Candidate]) -> bool
+    requires level { IsTrue (is_at_least steps.now.least aim.level) }
+    requires candidates { All (IsCandidate steps.now) (map (λ c. c.now) left.now) }
+    requires state { toward.now.state ≡ aim.state }
+    requires toward { IsToward steps.now.checked.now steps.now.directory.now steps.now.groups.now
+        steps.now.blocks.now toward.now.state toward.now }
+    ensures { result ≡ false → All (λ c. reaches steps.now aim c.now ≡ false) left.now }
+{
+    for candidate in left {
+        match reached(steps, aim, toward, candidate) {
+            Some(_) => return true,
+            None => {}
+        }
+    }
+    false
+}
+
+// Does the same, with what steps to the aim depend on.
+fn is_reached_by(
+    alloc: Global,
+    steps: &HostSteps<'_, '_>,
+    aim: Aim,
+    left: &[&Candidate],
+) -> Result<bool, AllocError>
+    requires level { IsTrue (is_at_least steps.now.least aim.level) }
+    requires candidates { All (IsCandidate steps.now) (map (λ c. c.now) left.now) }
+    ensures { IfOk result (λ is. is ≡ false
+        → All (λ c. reaches steps.now aim c.now ≡ false) left.now) }
+{
+    match steps.known(aim.state) {
+        Some(known) => Ok(is_reached(steps, aim, &known.toward, left)),
+        None => {
+            let toward = steps.toward(alloc, aim.state)?;
+            Ok(is_reached(steps, aim, &toward, left))
+        }
+    }
+}
+
+/// Whether a candidate that is left has a step of the level, or a better one, to what is found. Returns `AllocError` if allocation
+/// fails.
+pub(crate) fn has_step(
+    alloc: Global,
+    steps: &HostSteps<'_, '_>,
+    sought: Sought,
+    level: Level,
+    spread: &Reach<'_>,
+) -> Result<bool, AllocError>
+    requires level { IsTrue (is_at_least steps.now.least level) }
+    requires candidates { All (IsCandidate steps.now) (map (λ c. c.now) spread.now.left.items) }
+    ensures { IfOk result (λ is. is ≡ false → IsDrawn (kept_steps steps.now sought) level
+        (length spread.now.found.items) spread.now.found.items
+        (states_of (map (λ c. c.now) spread.now.left.items))) }
+{
+    for index in 0..spread.found.len() {
+        let aim = Aim {
+            index,
+            state: spread.found[index].state,
+            level,
+            counted: sought.counted,
+            steps: 0,
+        };
+        if is_reached_by(alloc, steps, aim, &spread.left)? {
+            return Ok(true);
+        }
+    }
+    Ok(false)
 }

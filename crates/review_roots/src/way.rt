@@ -5,7 +5,6 @@ ghost use Rattle.review_roots.specs.Sought.{steps_of};
 ghost use Rattle.review_roots.specs.Body.Found.{AreFound, AreGiven, PointBack, found_states};
 ghost use Rattle.review_roots.specs.Body.Passing.{HasMarks, HasPassword, HasRow, LeadsWhole};
 ghost use Rattle.review_roots.specs.Ways.{IsChain, password_name, password_rank, step_password, worse};
-ghost use Rattle.review_roots.specs.declared.level.Level.{Level as TheLevel};
 ghost use Rattle.review_roots.specs.declared.search.Found.{Found as TheFound};
 ghost use Rattle.review_roots.specs.declared.search.Sought.{Sought as TheSought};
 
@@ -126,7 +125,7 @@ fn trace(alloc: Global, found: &[Found], index: usize, user: usize) -> Result<Tr
     while let Some(next) = found[at].next {
         let Found {
             state,
-            level: _,
+            steps: _,
             next: _,
             given,
         } = found[at];
@@ -142,24 +141,25 @@ fn trace(alloc: Global, found: &[Found], index: usize, user: usize) -> Result<Tr
     })
 }
 
-/// Returns the chain of a found state. Returns `AllocError` if allocation fails.
+/// Returns the chain of a found state, of the level of those that are found. Returns `AllocError` if allocation fails.
 pub(crate) fn way_of(
     alloc: Global,
     steps: &HostSteps<'_, '_>,
+    level: Level,
     found: &[Found],
     index: usize,
 ) -> Result<Way, AllocError>
     requires back { PointBack found.now }
     requires given { AreGiven steps.now found.now }
     requires inside { index < length found.now }
-    ensures { IfOk result (λ way. (q : TheSought) (least : TheLevel) (f : TheFound)
-        → AreFound (steps_of steps.now q) steps.now.states.now least found.now
+    ensures { IfOk result (λ way. (way.level ≡ level) × ((q : TheSought) (f : TheFound)
+        → AreFound (steps_of steps.now q) steps.now.states.now level found.now
         → slice_get found.now index ≡ Some f
-        → IsChain steps.now q least f.state way) }
+        → IsChain steps.now q f.state way)) }
 {
     let Found {
         state,
-        level,
+        steps: _,
         next: _,
         given,
     } = found[index];

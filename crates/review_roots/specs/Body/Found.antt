@@ -1,6 +1,6 @@
 -- The states that are found to lead to a target, and what is known of those that are left.
-use Rattle.std.specs.Prelude.{◌≡◌, ◌<◌, ◌⊎◌, ◌&&◌, ◌||◌, ◌==◌, ℕ, Bool, true, false, not, if◌then◌else◌, is_some, List, All, filter, map, slice_get}
-use Rattle.std.specs.Prelude.{Option, Some, None, get_or, length, nat_lt, set, take}
+use Rattle.std.specs.Prelude.{◌≡◌, ◌<◌, ◌≤◌, ◌+◌, ◌⊎◌, ◌&&◌, ◌||◌, ◌==◌, ℕ, Bool, true, false, not, if◌then◌else◌, is_some, List, All}
+use Rattle.std.specs.Prelude.{Option, Some, None, filter, get_or, length, map, nat_lt, set, slice_get, take}
 use Rattle.std.specs.List.{Contains}
 use Rattle.review_roots.specs.declared.level.Level.{Level}
 use Rattle.review_roots.specs.declared.level.Level.TheVariants as level
@@ -10,13 +10,15 @@ use Rattle.review_roots.specs.declared.host.HostSteps.{HostSteps}
 use Rattle.review_roots.specs.declared.candidate.Candidate.{Candidate}
 use Rattle.review_roots.specs.declared.search.Aim.{Aim}
 use Rattle.review_roots.specs.declared.chains.Chains.{Chains}
+use Rattle.review_roots.specs.declared.chains.Levels.{Levels}
 use Rattle.review_roots.specs.declared.search.Found.{Found}
 use Rattle.review_roots.specs.declared.search.Sought.{Sought}
+use Rattle.review_roots.specs.declared.search.Reach.{Reach}
 use Rattle.review_roots.specs.declared.state.State.{State}
 use Rattle.review_roots.specs.Body.Candidates.{Qualifies, is_heard, states_of}
 use Rattle.review_roots.specs.Body.May.{may_count}
 use Rattle.review_roots.specs.Sought.{any_steps, free_steps, steps_of, unasked_steps}
-use Rattle.review_roots.specs.Chains.{Steps, HasPath, HasNoPath}
+use Rattle.review_roots.specs.Chains.{Steps, Path, HasPath, HasNoPath}
 use Rattle.review_roots.specs.Ranks.{rank, is_at_least}
 use Rattle.review_roots.specs.States.{level_for, state_with, step_given}
 use Rattle.review_roots.specs.Asked.{nothing}
@@ -36,10 +38,10 @@ starts_or (Some (Some i)) b = true
 abbrev pub may_start : List (Option ℕ) → State → Bool
 may_start starts s = starts_or (slice_get starts s.user) (is_some s.added)
 
--- no chain of the least level or a better one leads from a user without a start
-abbrev pub HaveNoChain : HostSteps → ℕ → List (Option ℕ) → Type 0
-HaveNoChain h target starts =
-    (user : ℕ) → slice_get starts user ≡ Some None → HasNoPath (any_steps h target) h.least (state_with None user)
+-- no chain of the level or a better one leads from a user without a start
+abbrev pub HaveNoChain : HostSteps → ℕ → Level → List (Option ℕ) → Type 0
+HaveNoChain h target l starts =
+    (user : ℕ) → slice_get starts user ≡ Some None → HasNoPath (any_steps h target) l (state_with None user)
 
 -- no group may be added and listed commands do not count, or a step of the candidate that counts may have the least level
 abbrev pub is_counted : HostSteps → Counted → Candidate → Bool
@@ -54,26 +56,26 @@ is_left h q starts c =
     may_start starts c.state
     && (is_heard h.on.items q.target c && is_counted h q.counted c)
 
--- the found state leads to the goal by a chain of its level, and by none of a better level
-pub record IsFound (g : Steps State) (f : Found) : Type 0 where
+-- the found state leads to the goal by a chain of the level or a better one, and by none of fewer steps
+pub record IsFound (g : Steps State) (l : Level) (f : Found) : Type 0 where
   pub inside : Contains g.states f.state
-  pub path : HasPath g f.level f.state
-  pub best : (l : Level) → HasPath g l f.state → is_at_least l f.level ≡ true
+  pub path : HasPath g l f.state
+  pub shortest : (n : ℕ) → Path g l n f.state → f.steps ≤ n
 
--- the first step of a found state: none if it is at the goal; otherwise one of its level to a state that was found before
--- with that level or a better one
-pub record IsStep (g : Steps State) (found : List Found) (i : ℕ) (f : Found) (next : ℕ) (t : Found) : Type 0 where
+-- the first step of a found state: none if it is at the goal; otherwise one of the level to a state that was found before, whose
+-- chain has a step less
+pub record IsStep (g : Steps State) (l : Level) (found : List Found) (i : ℕ) (f : Found) (next : ℕ) (t : Found) : Type 0 where
   pub there : slice_get found next ≡ Some t
   pub before : next < i
-  pub step : is_at_least f.level (g.level f.state t.state) ≡ true
-  pub level : is_at_least f.level t.level ≡ true
+  pub step : is_at_least l (g.level f.state t.state) ≡ true
+  pub steps : f.steps ≡ t.steps + 1
 
-abbrev pub IsLinked : Steps State → List Found → ℕ → Found → Option ℕ → Type 0
-IsLinked g found i f None = g.goal f.state ≡ true
-IsLinked g found i f (Some next) = (t : Found) × IsStep g found i f next t
+abbrev pub IsLinked : Steps State → Level → List Found → ℕ → Found → Option ℕ → Type 0
+IsLinked g l found i f None = (g.goal f.state ≡ true) × (f.steps ≡ 0)
+IsLinked g l found i f (Some next) = (t : Found) × IsStep g l found i f next t
 
-abbrev pub AreLinked : Steps State → List Found → Type 0
-AreLinked g found = (i : ℕ) (f : Found) → slice_get found i ≡ Some f → IsLinked g found i f f.next
+abbrev pub AreLinked : Steps State → Level → List Found → Type 0
+AreLinked g l found = (i : ℕ) (f : Found) → slice_get found i ≡ Some f → IsLinked g l found i f f.next
 
 -- each found state's first step leads to one that was found before
 abbrev pub PointBack : List Found → Type 0
@@ -95,11 +97,10 @@ found_states found = map (λ f. f.state) found
 abbrev pub IsComplete : Steps State → List State → Level → List Found → Type 0
 IsComplete g states l found = (s : State) → Contains states s → Contains (found_states found) s ⊎ HasNoPath g l s
 
--- states that lead to the goal by chains of the level or a better one: of these states, all that do
+-- states that lead to the goal by chains of the level or a better one, each with a shortest one: of these states, all that do
 pub record AreFound (g : Steps State) (states : List State) (l : Level) (found : List Found) : Type 0 where
-  pub right : All (IsFound g) found
-  pub linked : AreLinked g found
-  pub levels : All (λ f. is_at_least l f.level ≡ true) found
+  pub right : All (IsFound g l) found
+  pub linked : AreLinked g l found
   pub complete : IsComplete g states l found
 
 -- the user without an added group
@@ -117,10 +118,10 @@ any_sought target = record { target = target; counted = counted.Any }
 
 -- of the candidates with which a chain may begin, the state is among those that are near, or none of its steps, of any kind, leads to
 -- what is found
-abbrev pub AreNearTo : HostSteps → ℕ → List (Option ℕ) → List Found → List Found → Type 0
-AreNearTo h target starts found near =
+abbrev pub AreNearTo : HostSteps → ℕ → Level → List (Option ℕ) → List Found → List Found → Type 0
+AreNearTo h target l starts found near =
     All (λ c. Contains (found_states near) c.state
-    ⊎ All (λ f. is_at_least h.least (step_on h c.state f.state).level ≡ false) found)
+    ⊎ All (λ f. is_at_least l (step_on h c.state f.state).level ≡ false) found)
     (filter (is_left h (any_sought target) starts) h.candidates.now)
 
 -- the marks with that of a further user
@@ -128,10 +129,10 @@ abbrev pub marked : List Bool → ℕ → List Bool
 marked marks user = if nat_lt user (length marks) then set marks user true else marks
 
 -- of the candidates with which a chain may begin, the user is marked, or none of its steps, of any kind, leads to what is found
-abbrev pub AreNear : HostSteps → ℕ → List (Option ℕ) → List Found → List Bool → Type 0
-AreNear h target starts found near =
+abbrev pub AreNear : HostSteps → ℕ → Level → List (Option ℕ) → List Found → List Bool → Type 0
+AreNear h target l starts found near =
     All (λ c. (get_or near c.state.user true ≡ true)
-    ⊎ All (λ f. is_at_least h.least (step_on h c.state f.state).level ≡ false) found)
+    ⊎ All (λ f. is_at_least l (step_on h c.state f.state).level ≡ false) found)
     (filter (is_left h (any_sought target) starts) h.candidates.now)
 
 -- for each user, the index of its found state without an added group, if it is found
@@ -165,31 +166,35 @@ pub record AreChains (h : HostSteps) (c : Chains) : Type 0 where
   pub free_starts : AreStarts c.free.items c.free_starts.items
   pub free_users : length c.free_starts.items ≡ length h.directory.now.people
 
--- the chains to a target, by any steps, by steps that may go without a password, and by steps that ask for none; and the users from
--- which a step of any kind leads to where one begins whose steps may go without
-pub record ChainsLead (h : HostSteps) (target : ℕ) (c : Chains) : Type 0 where
-  pub any : AreFound (any_steps h target) h.states.now h.least c.any.items
-  pub unasked : AreFound (unasked_steps h target) h.states.now h.least c.unasked.items
-  pub free : AreFound (free_steps h target) h.states.now h.least c.free.items
-  pub near : AreNear h target c.any_starts.items c.unasked.items c.near.items
+-- the chains of a level to a target, by any steps, by steps that may go without a password, and by steps that ask for none; and the
+-- users from which a step of any kind leads to where one begins whose steps may go without
+pub record ChainsLead (h : HostSteps) (target : ℕ) (l : Level) (c : Chains) : Type 0 where
+  pub level : is_at_least h.least l ≡ true
+  pub any : AreFound (any_steps h target) h.states.now l c.any.items
+  pub unasked : AreFound (unasked_steps h target) h.states.now l c.unasked.items
+  pub free : AreFound (free_steps h target) h.states.now l c.free.items
+  pub near : AreNear h target l c.any_starts.items c.unasked.items c.near.items
+  pub are : AreChains h c
 
--- the same of a found state with the level or a better one; without an index, one without an added group has a worse level
-abbrev pub IsGoodAt : List Found → ℕ → Level → Option ℕ → Type 0
-IsGoodAt found user l None =
-    All (λ f. is_start user f.state ≡ false) found
-    ⊎ ((i : ℕ) × ((f : Found) × ((slice_get found i ≡ Some f) × ((is_start user f.state ≡ true) × (is_at_least l f.level ≡ false)))))
-IsGoodAt found user l (Some i) =
-    (f : Found) × ((slice_get found i ≡ Some f) × ((is_start user f.state ≡ true) × (is_at_least l f.level ≡ true)))
+-- no further state has a chain of a lower level, if one has to be at least of the least; or these are the chains of it
+abbrev pub IsLower : HostSteps → ℕ → Level → List Found → Option Chains → Type 0
+IsLower h target l above None = is_at_least h.least l ≡ true → IsComplete (any_steps h target) h.states.now l above
+IsLower h target l above (Some c) = ChainsLead h target l c
 
--- where the found state at the index is the user's, no chain of its level asks for no password
-abbrev pub IsAsked : Chains → ℕ → ℕ → Type 0
-IsAsked c user index =
-    (f : Found) → slice_get c.any.items index ≡ Some f → IsGoodAt c.free.items user f.level None
+-- what was found at the lower level, or else above
+abbrev pub lower_found : List Found → Option Chains → List Found
+lower_found above None = above
+lower_found above (Some c) = c.any.items
 
--- and none has steps that all may go without one
-abbrev pub IsEachAsked : Chains → ℕ → ℕ → Type 0
-IsEachAsked c user index =
-    (f : Found) → slice_get c.any.items index ≡ Some f → IsGoodAt c.free.items user f.level None × IsGoodAt c.unasked.items user f.level None
+-- the chains of each level
+pub record AreLevels (h : HostSteps) (target : ℕ) (x : Levels) : Type 0 where
+  pub all : ChainsLead h target level.All x.all
+  pub all_but : IsLower h target level.AllBut x.all.any.items x.all_but
+  pub listed : IsLower h target level.Listed (lower_found x.all.any.items x.all_but) x.listed
+
+-- no chain of a better level leads from the user
+abbrev pub IsBest : HostSteps → ℕ → Level → ℕ → Type 0
+IsBest h target l user = (m : Level) → rank l < rank m → HasNoPath (any_steps h target) m (state_with None user)
 
 -- ---- While a search goes on: what is found, and the states that are left
 
@@ -200,20 +205,27 @@ IsStuck g least s = (l : Level) → is_at_least least l ≡ true → HasNoPath g
 abbrev pub HaveNoPath : Steps State → Level → List State → Type 0
 HaveNoPath g l left = All (HasNoPath g l) left
 
-pub record IsSearch (g : Steps State) (least l : Level) (found : List Found) (left : List State) : Type 0 where
-  pub level : is_at_least least l ≡ true
-  pub right : All (IsFound g) found
-  pub linked : AreLinked g found
-  pub levels : All (λ f. is_at_least l f.level ≡ true) found
-  pub covered : (s : State) → Contains g.states s → Contains (found_states found) s ⊎ (Contains left s ⊎ IsStuck g least s)
-  pub inside : All (Contains g.states) left
-  pub away : All (λ s. g.goal s ≡ false) left
-  pub above : All (λ s. (m : Level) → rank l < rank m → HasNoPath g m s) left
-
 -- no step of the level leads from a state that is left to one of the first n found
 abbrev pub IsDrawn : Steps State → Level → ℕ → List Found → List State → Type 0
 IsDrawn g l n found left =
     All (λ s. (k : ℕ) (f : Found) → k < n → slice_get found k ≡ Some f → is_at_least l (g.level s f.state) ≡ false) left
+
+-- the first n found states have been drawn to; chains become longer along the list, and none is longer by more than a step than that
+-- of the next one
+pub record IsSearch (g : Steps State) (least l : Level) (n : ℕ) (found : List Found) (left : List State) : Type 0 where
+  pub level : is_at_least least l ≡ true
+  pub right : All (IsFound g l) found
+  pub linked : AreLinked g l found
+  pub covered : (s : State) → Contains g.states s → Contains (found_states found) s ⊎ (Contains left s ⊎ IsStuck g least s)
+  pub inside : All (Contains g.states) left
+  pub away : All (λ s. g.goal s ≡ false) left
+  pub drawn : IsDrawn g l n found left
+  pub ordered : (i k : ℕ) (f e : Found) → i ≤ k → slice_get found i ≡ Some f → slice_get found k ≡ Some e → f.steps ≤ e.steps
+  pub close : (i : ℕ) (f t : Found) → slice_get found i ≡ Some f → slice_get found n ≡ Some t → f.steps ≤ t.steps + 1
+
+-- no chain has more steps than states were found before
+abbrev pub AreDeep : List Found → Type 0
+AreDeep found = (i : ℕ) (f : Found) → slice_get found i ≡ Some f → f.steps ≤ i
 
 -- what is known of the candidate holds on the host
 abbrev pub IsCandidate : HostSteps → Candidate → Type 0
@@ -226,7 +238,7 @@ reaches h aim c =
     (level_for aim.counted c.state.user (step_given h.checked.now h.directory.now h.host.now h.groups.now c.state aim.state))
 
 abbrev pub found_by : HostSteps → Aim → Candidate → Found
-found_by h aim c = record { state = c.state; level = aim.level; next = Some aim.index; given = step_on h c.state aim.state }
+found_by h aim c = record { state = c.state; steps = aim.steps; next = Some aim.index; given = step_on h c.state aim.state }
 
 -- the state is not at the goal, and no step of the least level, or of a better one, leads from it
 abbrev pub IsMute : Steps State → Level → State → Type 0
@@ -235,14 +247,43 @@ IsMute g least s =
 
 -- a state at the goal
 abbrev pub found_there : State → Found
-found_there s = record { state = s; level = level.All; next = None; given = nothing }
+found_there s = record { state = s; steps = 0; next = None; given = nothing }
 
 -- what the search begins with, among the kept states: those at the goal, and those that are left
-pub record IsStartOf (h : HostSteps) (q : Sought) (found : List Found) (left : List Candidate) : Type 0 where
-  pub goals : All (λ f. (f.level ≡ level.All) × ((f.next ≡ None) × ((kept_steps h q).goal f.state ≡ true))) found
+pub record IsStartOf (h : HostSteps) (q : Sought) (least : Level) (found : List Found) (left : List Candidate) : Type 0 where
+  pub goals : All (λ f. (f.steps ≡ 0) × ((f.next ≡ None) × ((kept_steps h q).goal f.state ≡ true))) found
   pub found_inside : All (λ f. Contains (kept_steps h q).states f.state) found
   pub candidates : All (IsCandidate h) left
   pub inside : All (λ c. Contains (kept_steps h q).states c.state) left
   pub away : All (λ c. (kept_steps h q).goal c.state ≡ false) left
-  pub covered : All (λ s. Contains (found_states found) s ⊎ (Contains (states_of left) s ⊎ IsStuck (kept_steps h q) h.least s))
+  pub covered : All (λ s. Contains (found_states found) s ⊎ (Contains (states_of left) s ⊎ IsStuck (kept_steps h q) least s))
       (kept_steps h q).states
+
+-- ---- Searches by any steps, level by level
+
+-- what is found is all that has a chain of its level
+abbrev pub IsSpread : HostSteps → ℕ → Reach → Type 0
+IsSpread h target s =
+    All (IsCandidate h) (map (λ c. c.now) s.left.items)
+    × ((l : Level) × IsSearch (kept_steps h (any_sought target)) h.least l (length s.found.items) s.found.items
+    (states_of (map (λ c. c.now) s.left.items)))
+
+-- the same of a level that is asked for
+pub record IsSpreadAt (h : HostSteps) (target : ℕ) (l : Level) (s : Reach) : Type 0 where
+  pub level : is_at_least h.least l ≡ true
+  pub spread : IsSpread h target s
+  pub given : AreGiven h s.found.items
+  pub found : AreFound (any_steps h target) h.states.now l s.found.items
+
+abbrev pub IsSomeSpread : HostSteps → ℕ → Level → Option Reach → Type 0
+IsSomeSpread h target l None = Unit {0}
+IsSomeSpread h target l (Some s) = IsSpreadAt h target l s
+
+-- no further state has a chain of the lower level, if that is asked for; or all are found that have one
+abbrev pub IsLowerSpread : HostSteps → ℕ → Level → List Found → Option Reach → Type 0
+IsLowerSpread h target l above None = is_at_least h.least l ≡ true → IsComplete (any_steps h target) h.states.now l above
+IsLowerSpread h target l above (Some s) = IsSpreadAt h target l s
+
+abbrev pub lower_spread : List Found → Option Reach → List Found
+lower_spread above None = above
+lower_spread above (Some s) = s.found.items

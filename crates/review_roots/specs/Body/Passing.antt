@@ -1,33 +1,25 @@
 -- What a chain asks for, as a program finds it along what was found; only proofs of bodies need these definitions.
-use Rattle.std.specs.Prelude.{◌≡◌, ℕ, true, List, None, Some, slice_get}
+use Rattle.std.specs.Prelude.{◌≡◌, ℕ, List, Some, length, slice_get}
 use Rattle.review_grants.specs.declared.marks.Marks.{Marks}
-use Rattle.review_roots.specs.declared.chains.Chains.{Chains}
 use Rattle.review_roots.specs.declared.host.HostSteps.{HostSteps}
+use Rattle.review_roots.specs.declared.level.Level.{Level}
 use Rattle.review_roots.specs.declared.search.Found.{Found}
 use Rattle.review_roots.specs.declared.state.State.{State}
 use Rattle.review_roots.specs.declared.way.Password.{Password}
-use Rattle.review_roots.specs.declared.way.Way.{Way}
-use Rattle.review_roots.specs.Body.Found.{AreGiven, AreLinked, any_sought}
+use Rattle.review_roots.specs.Body.Found.{AreGiven, AreLinked}
 use Rattle.review_roots.specs.Chains.{LeadsAlong, Steps}
-use Rattle.review_roots.specs.Ranks.{is_at_least}
-use Rattle.review_roots.specs.States.{state_with}
-use Rattle.review_roots.specs.Ways.{IsChain, first_row, marks_along, password_along}
+use Rattle.review_roots.specs.Ways.{first_row, marks_along, password_along}
 
--- the chain leads from the found state at the index to the goal
+-- the chain leads from the found state at the index to the goal, and has its steps
 abbrev pub LeadsWhole : List Found → ℕ → List State → Type 0
 LeadsWhole found index chain =
-    (g : Steps State) (f : Found) → AreLinked g found → slice_get found index ≡ Some f → LeadsAlong g f.level f.state chain
+    (g : Steps State) (l : Level) (f : Found) → AreLinked g l found → slice_get found index ≡ Some f →
+    LeadsAlong g l f.state chain × (f.steps ≡ length chain)
 
 -- what the found state at the index is given has the last row that allows the first step of the chain
 abbrev pub HasRow : List Found → ℕ → List State → Type 0
 HasRow found index chain =
     (h : HostSteps) (f : Found) → AreGiven h found → slice_get found index ≡ Some f → f.given.by ≡ first_row h f.state chain
-
--- the chain is one of any steps from the user, of the level of its found state at the index or a better one
-abbrev pub IsBestOf : HostSteps → ℕ → Chains → ℕ → ℕ → Way → Type 0
-IsBestOf h target c user index w =
-    IsChain h (any_sought target) h.least (state_with None user) w
-    × ((f : Found) → slice_get c.any.items index ≡ Some f → is_at_least f.level w.level ≡ true)
 
 -- the password is the worst for which a step of the chain asks that begins with the user
 abbrev pub HasPassword : List Found → ℕ → ℕ → List State → Password → Type 0

@@ -9,5 +9,5 @@ invariant-loop-index l = record {
   candidates : All (IsCandidate l.steps) (map (λ c. c.now) l.left.items);
   parted : AreParted (filter (is_left l.steps (any_sought l.target) l.starts) l.steps.candidates.now) l.near.items
       (map (λ c. c.now) l.left.items);
-  far : AreFar l.steps (take l.index l.found) (map (λ c. c.now) l.left.items);
+  far : AreFar l.steps l.level (take l.index l.found) (map (λ c. c.now) l.left.items);
 }

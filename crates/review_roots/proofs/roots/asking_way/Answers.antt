@@ -1,27 +1,30 @@
 use Rattle.std.proofs.Common.{◌∙◌, Bool, List, ap, get_or, inl, inr, sym, true}
-use Rattle.review_roots.proofs.FreeLemmas.{best-of, kept-way, none-marked}
+use Rattle.review_roots.specs.Body.Found.{any_sought}
+use Rattle.review_roots.proofs.FreeLemmas.{chosen, none-marked, way-any}
 use Rattle.review_roots.proofs.roots.asking_way.Goals as goal
 
 pub own_way-requires-clause-way : goal.own_way-requires-clause-way
 own_way-requires-clause-way c =
-    best-of c.args.steps.now c.args.target c.args.chains.now c.requires.lead c.args.user c.args.index c.requires.start c.in_ok-way.way
-    c.deref.result.now c.in_ok-way.ensures c.deref.ensures.value
+    chosen c.args.steps.now c.args.target c.args.level c.requires.lead.level c.args.user c.requires.known (any_sought c.args.target)
+    c.deref.result.now c.args.chains.now.any.items c.args.index c.in_ok-way.way c.in_ok-way.ensures.1 c.deref.ensures.value
+    c.requires.lead.any c.requires.start
 
 pub returns-then-not-is_other : goal.returns-then-not-is_other
 returns-then-not-is_other c =
-    kept-way c.args.steps.now c.args.target c.args.chains.now c.requires.lead c.args.user c.args.index c.requires.start c.requires.asked
-    c.in_ok-way.way
-    (best-of c.args.steps.now c.args.target c.args.chains.now c.requires.lead c.args.user c.args.index c.requires.start c.in_ok-way.way
-    c.deref.result.now c.in_ok-way.ensures c.deref.ensures.value)
-    (inl (c.is_other.ensures c.if-not-is_other.true))
+    way-any c.args.steps.now c.args.target c.args.level c.requires.lead.level c.args.user c.requires.known c.requires.best c.in_ok-way.way
+    c.in_ok-way.ensures.0 c.requires.free c.requires.unasked (inl (c.is_other.ensures c.if-not-is_other.true))
+    (chosen c.args.steps.now c.args.target c.args.level c.requires.lead.level c.args.user c.requires.known (any_sought c.args.target)
+    c.deref.result.now c.args.chains.now.any.items c.args.index c.in_ok-way.way c.in_ok-way.ensures.1 c.deref.ensures.value
+    c.requires.lead.any c.requires.start)
 
 pub returns-then-not-is_near : goal.returns-then-not-is_near
 returns-then-not-is_near c =
-    let best = best-of c.args.steps.now c.args.target c.args.chains.now c.requires.lead c.args.user c.args.index c.requires.start
-    c.in_ok-way.way c.deref.result.now c.in_ok-way.ensures c.deref.ensures.value in
-    kept-way c.args.steps.now c.args.target c.args.chains.now c.requires.lead c.args.user c.args.index c.requires.start c.requires.asked
-    c.in_ok-way.way best
-    (inr (none-marked c.args.steps.now c.args.target c.args.chains.now c.requires.lead c.args.user c.args.index c.requires.start
-    c.in_ok-way.way c.requires.chains c.requires.asked best
+    way-any c.args.steps.now c.args.target c.args.level c.requires.lead.level c.args.user c.requires.known c.requires.best c.in_ok-way.way
+    c.in_ok-way.ensures.0 c.requires.free c.requires.unasked
+    (inr (none-marked c.args.steps.now c.args.target c.args.level c.requires.lead.level c.args.user c.requires.known c.args.chains.now
+    c.requires.lead c.requires.unasked
     (sym (ap (λ (marks : List Bool). get_or marks c.args.user true) c.deref-2.ensures.value) ∙ sym c.is_near.ensures
     ∙ c.if-not-is_near.true) c.requires.away))
+    (chosen c.args.steps.now c.args.target c.args.level c.requires.lead.level c.args.user c.requires.known (any_sought c.args.target)
+    c.deref.result.now c.args.chains.now.any.items c.args.index c.in_ok-way.way c.in_ok-way.ensures.1 c.deref.ensures.value
+    c.requires.lead.any c.requires.start)

@@ -1,9 +1,9 @@
-use Rattle.std.proofs.Common.{◌<◌, ◌∙◌, ◌+◌, List, Vec, Global, ap, length, subst, sym}
+use Rattle.std.proofs.Common.{◌<◌, ◌∙◌, ◌+◌, List, Vec, Global, ap, arith, length, subst, sym}
 use Rattle.std.specs.Prelude.{MatchOption}
 use Rattle.sudo_match.specs.declared.people.Person.{Person}
 use Rattle.review_roots.specs.declared.roots.Root.{Root}
 use Rattle.review_roots.specs.Roots.{IsNoRoot, IsRootAt}
-use Rattle.review_roots.proofs.RootLemmas.{AreRootsBefore, roots-more, roots-same}
+use Rattle.review_roots.proofs.RootLemmas.{AreRootsBefore, roots-all, roots-more, roots-same}
 use Rattle.review_roots.proofs.roots.roots_on.Goals as goal
 use Rattle.review_roots.proofs.roots.roots_on.Goals.{in-Some+in_ok-push, in_default}
 
@@ -27,3 +27,9 @@ loop-user-preserved c =
           subst (λ (v : Vec Root Global). AreRootsBefore h target least (n + 1) v.items) (sym w.roots-is)
           (roots-same h target least n c.loop-user.roots.items c.loop-user.invariant none))
     ]
+
+pub returns : goal.returns
+returns c =
+    let people = ap length c.people-user-end.ensures in
+    roots-all c.args.steps.now c.args.target c.args.steps.now.least c.loop-user.user c.loop-user.roots.items c.loop-user.invariant
+    (omega (arith, c.loop-user-test.false, people))

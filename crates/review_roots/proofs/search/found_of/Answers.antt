@@ -1,16 +1,18 @@
+use Rattle.std.proofs.Common.{arith, length, map}
+use Rattle.review_roots.specs.Body.Candidates.{states_of}
+use Rattle.review_roots.specs.Body.Found.{kept_steps}
 use Rattle.review_roots.proofs.KeptLemmas.{host-keeps}
 use Rattle.review_roots.proofs.PathLemmas.{found-among}
-use Rattle.review_roots.proofs.StartLemmas.{start-of, there-given}
+use Rattle.review_roots.proofs.SearchLemmas.{all-found, at-least-itself}
 use Rattle.review_roots.proofs.search.found_of.Goals as goal
-
-pub search_levels-requires-clause-start : goal.search_levels-requires-clause-start
-search_levels-requires-clause-start c =
-    start-of c.args.steps.now c.args.sought c.args.starts.now _ _ c.requires.starts c.in_ok-found.ensures c.in_ok-left.ensures
-
-pub search_levels-requires-clause-given : goal.search_levels-requires-clause-given
-search_levels-requires-clause-given c = there-given c.args.steps.now _ _ c.in_ok-found.ensures
 
 pub returns-clause-found : goal.returns-clause-found
 returns-clause-found c =
     let h = c.args.steps.now in
-    found-among h c.args.sought h.faultless (host-keeps h) h.least c.search_levels.new.found.items c.in_ok-search_levels.ensures.found
+    let q = c.args.sought in
+    let l = c.args.level in
+    let found = c.in_ok-found.field-0.found.items in
+    let search = c.in_ok-found.ensures.search l c.requires.level (at-least-itself l) c.requires.starts in
+    found-among h q h.faultless (host-keeps h) l found
+    (all-found (kept_steps h q) l l (length found) found (states_of (map (λ c. c.now) c.in_ok-found.field-0.left.items)) search
+    (omega arith))

@@ -1,6 +1,7 @@
 use Rattle.std.proofs.Common.{◌+◌, ◌-◌, map, length}
 use Rattle.std.specs.Prelude.{All}
-use Rattle.review_roots.specs.Body.Found.{AreGiven, IsCandidate, IsDrawn, IsSearch, kept_steps}
+use Rattle.review_roots.specs.declared.level.Level.{Level}
+use Rattle.review_roots.specs.Body.Found.{AreDeep, AreGiven, IsCandidate, IsSearch, kept_steps}
 use Rattle.review_roots.specs.Body.Candidates.{states_of}
 use Rattle.review_roots.proofs.search.spread.Given as goal
 
@@ -8,8 +9,10 @@ abbrev pub invariant-loop-index : goal.invariant-loop-index
 invariant-loop-index l = record {
   candidates : All (IsCandidate l.steps) (map (λ c. c.now) l.left.items);
   given : AreGiven l.steps l.found.items;
-  search : IsSearch (kept_steps l.steps l.sought) l.steps.least l.level l.found.items (states_of (map (λ c. c.now) l.left.items));
-  drawn : IsDrawn (kept_steps l.steps l.sought) l.level l.index l.found.items (states_of (map (λ c. c.now) l.left.items));
+  deep : AreDeep l.found.items;
+  search : (k : Level) → IsSearch (kept_steps l.steps l.sought) k l.level 0 l.initial.found.items
+      (states_of (map (λ c. c.now) l.initial.left.items)) →
+      IsSearch (kept_steps l.steps l.sought) k l.level l.index l.found.items (states_of (map (λ c. c.now) l.left.items));
 }
 
 abbrev pub decreases-loop-index : goal.decreases-loop-index

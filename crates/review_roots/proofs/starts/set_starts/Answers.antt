@@ -1,5 +1,4 @@
 use Rattle.std.proofs.Common.{◌∙◌, ◌+◌, None, ap, arith, get_or, length, subst, sym}
-use Rattle.review_roots.specs.declared.level.Level.TheVariants as level
 use Rattle.review_roots.specs.declared.search.Found.{Found}
 use Rattle.review_roots.specs.Asked.{nothing}
 use Rattle.review_roots.specs.Body.Found.{AreStartsBefore}
@@ -11,7 +10,7 @@ pub loop-index-preserved : goal.loop-index-preserved
 loop-index-preserved c =
     let found = c.args.found.now in
     let n = c.loop-index.index in
-    let other : Found = record { state = record { user = 0; added = None }; level = level.None; next = None; given = nothing } in
+    let other : Found = record { state = record { user = 0; added = None }; steps = 0; next = None; given = nothing } in
     let f : Found = get_or found n other in
     record {
       known = ap length c.set_start.ensures ∙ starts-length c.loop-index.starts f.state n ∙ c.loop-index.invariant.known;
