@@ -2,13 +2,17 @@
 
 import os
 import shutil
+import time
 import unittest
 from collections.abc import Callable
+from unittest import mock
 
 from support import Case, needs_program
 
+from kulavemia import netgroups
 from kulavemia.command import Fault
 from kulavemia.directory import Group, Person, write
+from kulavemia.netgroups import Triple, named_in, of_this_machine, triples_of
 
 PASSWD = """root:x:0:0::/root:/bin/sh
 jim:x:5001:5000::/home/jim:/bin/sh
@@ -299,6 +303,161 @@ class Directory(Case):
                 "compare", "old", "new", "--users", "out/users.csv", "--hosts", "out/hosts.csv", "s=r.csv", status=1
             )
             self.assertIn("gained,s,1,jim,web1,,,/bin/id,,nomatch,allow,,SETENV,,new:1", out)
+
+
+# A getent that prints as that of glibc does, which has a blank for any host, and notes how it is asked.
+GETENT = """#!/bin/sh
+printf '%s\\n' "$*" >>{folder}/asked
+[ "$1 $2" = "netgroup --" ] || exit 1
+case $3 in
+  ops) echo 'ops                   ( ,alice,) ( ,bob,Example.org) ( ,eve,example.com) ( ,alice,)' ;;
+  web) echo 'web                   (web1,-,) (web2.example.org,-,)' ;;
+  'two words') echo 'two words             ( ,,)' ;;
+  -s) echo '-s                    (-,joe,)' ;;
+  empty) echo 'empty                ' ;;
+  far) echo 'far                   ( ,eve,example.com)' ;;
+  address) echo 'address               (10.0.0.1,joe,)' ;;
+  control) printf 'control               ( ,j\\001,)\\n' ;;
+  hangs) sleep 600 ;;
+  pours) cat /dev/zero ;;
+  other) echo 'ops                   ( ,alice,)' ;;
+  torn) echo 'torn                  ( ,alice' ;;
+  fails) echo 'fails                 ( ,alice,)'; exit 1 ;;
+  *) exit 2 ;;
+esac
+"""
+
+
+class Netgroups(Case):
+    """Netgroups of this machine, by a stub of getent."""
+
+    def setUp(self) -> None:
+        super().setUp()
+        os.chmod(self.write("bin/getent", GETENT.format(folder=self.folder)), 0o755)
+        changes = {"PATH": f"{self.path('bin')}:{os.environ['PATH']}"}
+        self.enterContext(mock.patch.dict(os.environ, changes))
+        self.in_domain("(none)")
+
+    def in_domain(self, domain: str) -> None:
+        """Gives this machine a NIS domain."""
+        self.enterContext(mock.patch.object(netgroups, "_OWN_DOMAIN", self.write("domainname", f"{domain}\n")))
+
+    def found(self, *names: str) -> tuple[list[str], list[str]]:
+        """Returns the fields behind the names of netgroups of this machine, and the warnings."""
+        with mock.patch.object(netgroups, "warn") as warn:
+            triples = of_this_machine(names)
+        return [",".join(triple) for triple in triples], [call.args[0] for call in warn.call_args_list]
+
+    def fault_of(self, name: str) -> str:
+        """Returns why a netgroup is refused."""
+        with self.assertRaises(Fault) as raised:
+            of_this_machine([name])
+        return str(raised.exception)
+
+    def test_the_file_of_a_policy(self) -> None:
+        self.write("sudoers", 'Defaults:+ops !lecture\n"+two words" +web = (+-s, +gone) ALL\n@include more\n')
+        self.write("more", "alice ALL = (+empty) ALL\n")
+        _, err = self.run_tool("directory", "out", "--netgroups", "sudoers")
+        self.assertEqual(
+            [row for row in self.rows("out", "netgroups.csv") if not row.startswith("ops,")],
+            [
+                "netgroup,host,user,domain",
+                "two words,,,",
+                "web,web1,-,",
+                "web,web2.example.org,-,",
+                "-s,-,joe,",
+                "gone,-,-,",
+                "empty,-,-,",
+            ],
+        )
+        self.assertEqual(self.rows("asked")[-1], "netgroup -- empty")
+        said = "netgroup gone: this machine knows no such netgroup; it is written as one of nobody, as for sudo"
+        self.assertIn(f"directory: warning: {said}\n", err)
+        self.assertTrue(os.path.exists(self.path("out", "users.csv")))
+
+    def test_a_policy_without_netgroups(self) -> None:
+        self.write("sudoers", "alice ALL = /bin/date +%s\n")
+        self.run_tool("directory", "out", "--netgroups", "sudoers")
+        self.assertEqual(self.rows("out", "netgroups.csv"), ["netgroup,host,user,domain"])
+        self.assertFalse(os.path.exists(self.path("asked")))
+
+    def test_nothing_is_written_where_a_netgroup_is_refused(self) -> None:
+        self.write("sudoers", "+address ALL = ALL\n")
+        _, err = self.run_tool("directory", "out", "--netgroups", "sudoers", status=3)
+        self.assertEqual(err, "directory: netgroup address: the host 10.0.0.1 is no name that sudo_review takes\n")
+        self.assertEqual(os.listdir(self.path("out")), [])
+        _, err = self.run_tool("directory", "out", "--from", "x", "--netgroups", "sudoers", status=2)
+        self.assertEqual(err, "directory: --netgroups is for this machine, and --from for copied files\n")
+        _, err = self.run_tool("directory", "out", "--netgroups", "gone", status=4)
+        self.assertEqual(err, "directory: gone: No such file or directory\n")
+
+    def test_domains(self) -> None:
+        ops = ["ops,,alice,", "ops,,bob,Example.org", "ops,,eve,example.com"]
+        for domain in ("(none)", "", "a b", "a,b"):
+            self.in_domain(domain)
+            self.assertEqual(self.found("ops"), (ops, []))
+        self.in_domain("example.ORG")
+        said = "triples are left out, since they are of another domain than example.ORG"
+        self.assertEqual(self.found("ops"), (ops[:2], [f"netgroup ops: 1 of 4 {said}"]))
+        self.assertEqual(self.found("far"), (["far,-,-,"], [f"netgroup far: 1 of 1 {said}"]))
+        with mock.patch.object(netgroups, "_OWN_DOMAIN", self.path("none")):
+            self.assertEqual(self.found("ops"), (ops, []))
+
+    def test_what_cannot_be_taken(self) -> None:
+        self.assertEqual(self.fault_of("control"), "netgroup control: the user j\x01 is no name that sudo_review takes")
+        for name, status in (("other", 0), ("torn", 0), ("fails", 1)):
+            said = f"netgroup {name}: getent ended with status {status}, and its answer cannot be read"
+            self.assertEqual(self.fault_of(name), said)
+        self.assertEqual(self.fault_of("pours"), f"netgroup pours: getent prints more than {1 << 26} bytes")
+        start = time.monotonic()
+        with mock.patch.object(netgroups, "SECONDS", 0.5):
+            self.assertEqual(self.fault_of("hangs"), "netgroup hangs: getent took more than 0.5 s")
+        self.assertLess(time.monotonic() - start, 30)
+        os.environ["PATH"] = self.path("none")
+        self.assertEqual(self.fault_of("ops"), "this machine has no command getent, which lists netgroups")
+
+    def test_too_many_triples(self) -> None:
+        os.mkdir(self.path("out"))
+        triple = Triple("ops", "", "u", "")
+        netgroups.write(self.path("out"), [triple] * 100_000)
+        with self.assertRaisesRegex(Fault, "100001 triples of netgroups, and sudo_review takes 100000"):
+            netgroups.write(self.path("out"), [triple] * 100_001)
+
+    def test_what_getent_prints(self) -> None:
+        self.assertEqual(triples_of("a", "a                     ( ,,)\n"), [Triple("a", "", "", "")])
+        self.assertEqual(triples_of("a", "a (h)h,u)u,d)\n"), [Triple("a", "h)h", "u)u", "d")])
+        self.assertEqual(triples_of("long" * 6, "long" * 6 + " (h,u,d) ( ,-,)\n"), [
+            Triple("long" * 6, "h", "u", "d"), Triple("long" * 6, "", "-", "")
+        ])
+        for text in ("", "a", "a (h,u,d)", "b (h,u,d)\n", "a (h,u)\n", "a (h,u,d\n", "a x\n", "a (h,u,d)\nb\n"):
+            self.assertIsNone(triples_of("a", text), text)
+
+    def test_netgroups_that_a_policy_names(self) -> None:
+        for text, names in (
+            ("+a ALL = ALL", "a"),
+            ("+a,!+b, ! +c ALL = ALL", "a b c"),
+            ("alice +a, !+b = (+c, !+d : adm) /bin/ls : +e = (+f) NOPASSWD: ALL", "a b c d e f"),
+            ("alice \\\n  +a \\\n  = ALL", "a"),
+            ("User_Alias A = +a : B = !+b, +a", "a b"),
+            ("Runas_Alias A = +a", "a"),
+            ("Host_Alias A = +a, web1", "a"),
+            ("Defaults:+a lecture\nDefaults@+b lecture\nDefaults>+c, !+d lecture\nDefaults : +e lecture", "a b c d e"),
+            ('"+a" ALL = ("+b") ALL', "a b"),
+            ("+a-b.c_d@e ALL = ALL", "a-b.c_d@e"),
+            ("+a#x ALL = ALL", "a"),
+            # arguments, comments, paths, and what no netgroup of the program's is
+            ("alice ALL = /bin/date +a, /bin/x (+b) !+c \\, +d, sudoedit /x +e", ""),
+            ("alice ALL = CWD=/x /bin/date +a : +b = sha224:x /bin/date +c", "b"),
+            ("# +a\nalice ALL = ALL # +b", ""),
+            ("#1000 +a = ALL", "a"),
+            ("alice ALL = ALL\n@includedir +a", ""),
+            ("+ ALL = ALL", ""),
+            ("+a\\ b ALL = ALL", ""),
+            ('"+a\\x20" ALL = ALL', ""),
+        ):
+            with self.subTest(text):
+                self.assertEqual(named_in(self.write("sudoers", text + "\n")), names.split())
+        self.assertEqual(named_in(self.write("sudoers", '"+a b, c" ALL = ALL\n')), ["a b, c"])
 
 
 if __name__ == "__main__":

@@ -1,0 +1,188 @@
+"""Netgroups: which ones a policy may name, and their triples on this machine, as `sudo_review` takes them."""
+
+import contextlib
+import os
+import re
+import signal
+import subprocess
+import threading
+from collections.abc import Iterable, Iterator, Sequence
+from typing import IO, NamedTuple, cast
+
+from kulavemia import foreign, limits
+from kulavemia.command import FAILED, Fault, warn
+from kulavemia.lines import is_comment
+from kulavemia.policy import files_of, include_of
+from kulavemia.rows import write_rows
+
+NETGROUPS = "netgroups.csv"
+HEADER = ("netgroup", "host", "user", "domain")
+# What a field says in which no host and no user is meant.
+NONE = "-"
+# How long getent may take for a netgroup, and the most bytes that are read of what it prints.
+SECONDS = 60.0
+_CAP = 1 << 26
+# The status of getent for a netgroup that it does not know.
+_UNKNOWN = 2
+_OWN_DOMAIN = "/proc/sys/kernel/domainname"
+
+_BINDING = re.compile(rb"(?:Defaults[ \t]*[@>:]?)?")
+_TOKEN = re.compile(rb'"((?:[^"\\]|\\.)*)"?|([=,:()])|((?:[^ \t=,:()!"\\]|\\.)+)', re.DOTALL)
+_COMMENT = re.compile(rb"#(?![0-9-])")
+_NO_NAME = re.compile(rb"[\x00-\x1f\x7f\\]")
+_TRIPLE = re.compile(r"\(([^,\n]*),([^,\n]*),([^)\n]*)\) ?")
+# What sudo takes for no domain.
+_NO_DOMAIN = re.compile(r"[(), ]")
+_HOST = re.compile(r"(?=.*[A-Za-z])[A-Za-z0-9._-]+|-|")
+_NO_USER = re.compile(r"[\x00-\x1f\x7f]")
+
+
+class Triple(NamedTuple):
+    """A triple of a netgroup, behind the name of the netgroup. An empty host, user or domain is any."""
+
+    netgroup: str
+    host: str
+    user: str
+    domain: str
+
+
+def named_in(main: str) -> list[str]:
+    """Returns the netgroups that a policy of this machine may name, with its included files, in their order."""
+    found: dict[bytes, None] = {}
+    for lines in files_of(main).values():
+        for line in lines:
+            if not is_comment(line.text) and include_of(line) is None:
+                found.update(dict.fromkeys(_named_by(line.text)))
+    return [name.decode("utf-8", "surrogateescape") for name in found]
+
+
+def _named_by(text: bytes) -> Iterator[bytes]:
+    """Yields the netgroups that a line may name: its words that begin with a plus sign, but for arguments of a command."""
+    is_command = False
+    binding = _BINDING.match(text)
+    for quoted, mark, word in _TOKEN.findall(text, binding.end() if binding else 0):
+        if _COMMENT.match(word):
+            return
+        if is_command and mark in (b"", b"(", b")"):
+            continue
+        is_command = word.startswith(b"/")
+        name = quoted or word.partition(b"#")[0]
+        if name.startswith(b"+") and len(name) > 1 and not _NO_NAME.search(name):
+            yield name[1:]
+
+
+def of_this_machine(names: Iterable[str]) -> list[Triple]:
+    """Returns the triples of netgroups on this machine that sudo looks at here, one of nobody for a netgroup without any."""
+    domain = own_domain()
+    found: list[Triple] = []
+    for name in names:
+        triples = known(name)
+        if triples is None:
+            warn(f"netgroup {name}: this machine knows no such netgroup; it is written as one of nobody, as for sudo")
+        found += _of_domain(name, triples or [], domain) or [Triple(name, NONE, NONE, "")]
+    return found
+
+
+def _of_domain(name: str, triples: Sequence[Triple], domain: str) -> list[Triple]:
+    """Returns the triples of a domain or of any, each once; where this machine has none, sudo looks at all."""
+    found = [triple for triple in triples if not domain or triple.domain.lower() in ("", domain.lower())]
+    if len(found) < len(triples):
+        left = len(triples) - len(found)
+        warn(f"netgroup {name}: {left} of {len(triples)} triples are left out, since they are of another domain than {domain}")
+    for triple in found:
+        _want_fit(triple)
+    return list(dict.fromkeys(found))
+
+
+def _want_fit(triple: Triple) -> None:
+    """Raises `Fault` if a file of netgroups does not take a triple."""
+    if not _HOST.fullmatch(triple.host):
+        raise Fault(f"netgroup {triple.netgroup}: the host {triple.host} is no name that sudo_review takes")
+    if _NO_USER.search(triple.user):
+        raise Fault(f"netgroup {triple.netgroup}: the user {triple.user} is no name that sudo_review takes")
+
+
+def own_domain() -> str:
+    """Returns the NIS domain of this machine, empty if it has none that sudo takes for one."""
+    try:
+        with open(_OWN_DOMAIN, encoding="utf-8", errors="surrogateescape") as file:
+            domain = file.read().strip("\n")
+    except FileNotFoundError:
+        return ""
+    return "" if _NO_DOMAIN.search(domain) else domain
+
+
+def known(name: str) -> list[Triple] | None:
+    """Returns the triples of a netgroup, its inner ones among them, or `None` if this machine does not know it."""
+    status, text = _printed(name)
+    if status == _UNKNOWN and not text:
+        return None
+    found = triples_of(name, text)
+    if status != 0 or found is None:
+        raise Fault(f"netgroup {name}: getent ended with status {status}, and its answer cannot be read", FAILED)
+    return found
+
+
+def triples_of(name: str, text: str) -> list[Triple] | None:
+    """Returns the triples of what getent prints of a netgroup, or `None` if it prints something else."""
+    if not (text.startswith(name) and text.endswith("\n")):
+        return None
+    rest = text[len(name) : -1].strip(" ")
+    found, at = [], 0
+    while match := _TRIPLE.match(rest, at):
+        found.append(Triple(name, *(field.strip(" ") for field in match.groups())))
+        at = match.end()
+    return found if at == len(rest) else None
+
+
+def _printed(name: str) -> tuple[int, str]:
+    """Returns the status of getent and what it prints of a netgroup. Raises `Fault` at too much, or after too long."""
+    # Behind `--` no name is an option.
+    words = ["getent", "netgroup", "--", name]
+    quiet = subprocess.DEVNULL
+    try:
+        running = subprocess.Popen(words, stdin=quiet, stdout=subprocess.PIPE, stderr=quiet, start_new_session=True)
+    except FileNotFoundError:
+        raise Fault("this machine has no command getent, which lists netgroups", FAILED) from None
+    text = _read(running)
+    if len(text) > _CAP:
+        raise Fault(f"netgroup {name}: getent prints more than {_CAP} bytes")
+    if running.returncode == -signal.SIGKILL:
+        raise Fault(f"netgroup {name}: getent took more than {SECONDS:g} s", FAILED)
+    return running.returncode, text.decode("utf-8", "surrogateescape")
+
+
+def _read(running: subprocess.Popen[bytes]) -> bytes:
+    """Returns what a command prints, up to one byte beyond the cap. It is killed there, and when its time is over."""
+    timer = threading.Timer(SECONDS, _kill, (running,))
+    timer.start()
+    with running, cast(IO[bytes], running.stdout) as stream:
+        try:
+            text = stream.read(_CAP + 1)
+            if len(text) <= _CAP:
+                running.wait()
+            return text
+        finally:
+            timer.cancel()
+            _kill(running)
+
+
+def _kill(running: subprocess.Popen[bytes]) -> None:
+    """Kills a command that still runs, with what it has started."""
+    if running.poll() is None:
+        # It may end meanwhile.
+        with contextlib.suppress(ProcessLookupError):
+            os.killpg(running.pid, signal.SIGKILL)
+
+
+def write(folder: str, triples: Sequence[Triple]) -> None:
+    """Writes netgroups.csv into a folder."""
+    if len(triples) > limits.ROWS:
+        raise Fault(f"{len(triples)} triples of netgroups, and sudo_review takes {limits.ROWS}")
+    write_rows(os.path.join(folder, NETGROUPS), HEADER, triples)
+
+
+def want_plain(path: str) -> None:
+    """Raises `Fault` if a program would wait for a file of netgroups, or read without end."""
+    if path and foreign.exists(path):
+        foreign.want_plain(path, foreign.REQUESTS_CAP)
