@@ -22,6 +22,7 @@ PROGRAM = "program"
 POLICY = "policy"
 USERS = "users"
 HOSTS = "hosts"
+NETGROUPS = "netgroups"
 
 
 class Input(NamedTuple):

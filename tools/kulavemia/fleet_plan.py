@@ -12,7 +12,8 @@ from kulavemia import foreign, limits
 from kulavemia.command import Fault, line_of
 from kulavemia.fleet_handed import CODE, PACKAGE, PROGRAM_FILE, Handed, packed
 from kulavemia.fleet_work import HOSTS, REQUESTS, ROOT, TREE, USERS, Job
-from kulavemia.program import Judge
+from kulavemia.netgroups import NETGROUPS
+from kulavemia.program import REVIEW, Judge
 from kulavemia.sums import digest_of
 from kulavemia.tree import POLICY, Tree, files_of_tree, main_of, read_tree
 
@@ -48,7 +49,9 @@ class Host(NamedTuple):
 
 
 class Given(NamedTuple):
-    """A file of users or hosts as it was read: its path below the fleet's folder, its text, and whether it is the fleet's."""
+    """A file of users, hosts or netgroups as it was read: its path below the fleet's folder, its text, and whether it is the
+    fleet's.
+    """
 
     path: str
     text: bytes
@@ -56,12 +59,13 @@ class Given(NamedTuple):
 
 
 class ToReview(NamedTuple):
-    """What a review of a host reads: the main file of its policy, the policy, and the users and hosts files."""
+    """What a review of a host reads: the main file of its policy, the policy, the users and hosts files, and any netgroups."""
 
     main: str
     policy: Tree
     users: Given
     hosts: Given
+    netgroups: Given | None
 
 
 def shard_name(host: str, number: int) -> str:
@@ -89,7 +93,7 @@ def cut(files: Sequence[Requests], senders: int) -> list[list[Requests]]:
 
 
 class Fleet:
-    """A folder of hosts. What a host's folder lacks of policy, users and hosts is the fleet's own."""
+    """A folder of hosts. What a host's folder lacks of policy, users, hosts and netgroups is the fleet's own."""
 
     def __init__(self, folder: str, judge: Judge, asked: Asked) -> None:
         self.folder = folder
@@ -99,7 +103,7 @@ class Fleet:
             self.program = file.read()
         self.program_sum = digest_of([self.program])
         self.shared: dict[str, bytes] = {}
-        for name in (USERS, HOSTS):
+        for name in (USERS, HOSTS, NETGROUPS):
             if self._exists(folder, name):
                 self.shared[name] = self._read(folder, name)
         self.shared_main = self._main_of(folder)
@@ -153,16 +157,21 @@ class Fleet:
         if not self._exists(place, TREE):
             raise Fault(f"there is no {TREE}")
         policy = read_tree(os.path.join(place, TREE), main, os.fsencode(root), self.folder)
-        return ToReview(main, policy, self._given(name, USERS), self._given(name, HOSTS))
+        return ToReview(main, policy, self._given(name, USERS), self._given(name, HOSTS), self._found(name, NETGROUPS))
 
     def _given(self, name: str, table: str) -> Given:
         """Returns a table of a host, or the fleet's where the host has none. Raises `Fault` if there is neither."""
+        found = self._found(name, table)
+        if found is None:
+            raise Fault(f"there is no {table}")
+        return found
+
+    def _found(self, name: str, table: str) -> Given | None:
+        """Returns a table of a host, or the fleet's where the host has none, or `None` if there is neither."""
         folder = os.path.join(self.folder, name)
         if self._exists(folder, table):
             return Given(f"{name}/{table}", self._read(folder, table), False)
-        if table not in self.shared:
-            raise Fault(f"there is no {table}")
-        return Given(table, self.shared[table], True)
+        return Given(table, self.shared[table], True) if table in self.shared else None
 
     def gathered(self, name: str) -> int:
         """Returns when the users of a host were gathered, in nanoseconds: by its passwd, or by its users file; 0 if by none."""
@@ -187,7 +196,7 @@ class Fleet:
         return [file for _, file in sorted(found)]
 
     def _policy(self, folder: str) -> tuple[str, dict[str, bytes], list[str]]:
-        """Returns a policy's path, the files of a host's own policy, users and hosts, and which are the fleet's."""
+        """Returns a policy's path, the files of a host's own policy and directory, and which are the fleet's."""
         own: dict[str, bytes] = {}
         shared = []
         main = self._main_of(folder)
@@ -198,14 +207,18 @@ class Fleet:
             shared.append(TREE)
         else:
             raise Fault(f"there is no {TREE}")
-        for name in (USERS, HOSTS):
+        for name in (USERS, HOSTS, *self._further()):
             if self._exists(folder, name):
                 own[name] = self._read(folder, name)
             elif name in self.shared:
                 shared.append(name)
-            else:
+            elif name != NETGROUPS:
                 raise Fault(f"there is no {name}")
         return main, own, shared
+
+    def _further(self) -> tuple[str, ...]:
+        """Returns the tables beside users and hosts that the program takes, if they are there."""
+        return (NETGROUPS,) if self.judge == REVIEW else ()
 
     def _main_of(self, folder: str) -> str:
         """Returns the path of the policy's main file, as tools/collect notes it."""

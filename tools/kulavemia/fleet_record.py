@@ -15,6 +15,7 @@ from kulavemia.fleet_evidence import Input
 from kulavemia.fleet_review import DIGEST, REVIEWED, ROOTS, Reviewed
 from kulavemia.fleet_table import FleetTable, Noted
 from kulavemia.fleet_work import DONE, HOSTS, USERS
+from kulavemia.netgroups import NETGROUPS
 from kulavemia.page import Page
 from kulavemia.page import write as write_page
 from kulavemia.record import programs_of, roots_of, shown
@@ -106,3 +107,5 @@ def _tables(out: str, reviewed: Sequence[Reviewed], folder: str) -> Iterator[str
     for host in reviewed:
         if host.status == DONE:
             yield from (f"{ROOTS}/{host.host}/{name}" for name in _FILES)
+            if os.path.exists(os.path.join(out, ROOTS, host.host, NETGROUPS)):
+                yield f"{ROOTS}/{host.host}/{NETGROUPS}"

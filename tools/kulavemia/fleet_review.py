@@ -19,6 +19,7 @@ from kulavemia.fleet_evidence import Input
 from kulavemia.fleet_foreign import Foreigners
 from kulavemia.fleet_plan import Fleet, Given, ToReview
 from kulavemia.fleet_work import DONE, FAILED, HOSTS, REFUSED, TREE, USERS
+from kulavemia.netgroups import NETGROUPS
 from kulavemia.program import Policy
 from kulavemia.requests import number_of
 from kulavemia.review import Asked
@@ -111,11 +112,15 @@ class Reviewing:
             Input(fleet_evidence.USERS, file_of_text(found.users.path, found.users.text)),
             Input(fleet_evidence.HOSTS, file_of_text(found.hosts.path, found.hosts.text)),
         ]
+        texts = {USERS: found.users.text, HOSTS: hosts}
+        if found.netgroups is not None:
+            inputs.append(Input(fleet_evidence.NETGROUPS, file_of_text(found.netgroups.path, found.netgroups.text)))
+            texts[NETGROUPS] = found.netgroups.text
         lacks = missing.lines_of(os.path.join(self.fleet.folder, name), self.fleet.folder)
         parts = [part for role, file in inputs for part in (role, file.path, file.sum)]
         words = ["roots 2", str(self.form), found.main, *parts, *lacks]
         digest = digest_of([hosts, *map(os.fsencode, words)])
-        return _Made({USERS: found.users.text, HOSTS: hosts, DIGEST: digest.encode()}, inputs, lacks)
+        return _Made({**texts, DIGEST: digest.encode()}, inputs, lacks)
 
     def _write(self, part: str, policy: Policy, made: _Made) -> None:
         """Writes the tables of a host, what they are about, and what they are made of, into a folder."""
@@ -123,9 +128,9 @@ class Reviewing:
             with outputs.new(os.path.join(part, name)) as file:
                 file.write(text)
         fleet_evidence.write_inputs(part, made.inputs, made.missing, self.form)
-        users, hosts = (os.path.join(part, name) for name in (USERS, HOSTS))
+        users, hosts, netgroups = (os.path.join(part, name) if name in made.texts else "" for name in (USERS, HOSTS, NETGROUPS))
         try:
-            Asked(self.second, policy._replace(users=users, hosts=hosts), self.form).write(part)
+            Asked(self.second, policy._replace(users=users, hosts=hosts, netgroups=netgroups), self.form).write(part)
         except Fault as fault:
             # Which folder by chance a file stood in says nothing.
             raise Fault(str(fault).replace(os.path.join(part, ""), ""), fault.status) from None

@@ -55,8 +55,8 @@ class FleetTable(NamedTuple):
         return fleet_evidence.shared_by(self.inputs.items(), fleet_evidence.PROGRAM)
 
     def sums(self, host: str) -> list[Input]:
-        """Returns the files of users and hosts of a host."""
-        roles = (fleet_evidence.USERS, fleet_evidence.HOSTS)
+        """Returns the files of users, hosts and netgroups of a host."""
+        roles = (fleet_evidence.USERS, fleet_evidence.HOSTS, fleet_evidence.NETGROUPS)
         return [read for read in self.inputs.get(host, ()) if read.role in roles]
 
 

@@ -9,6 +9,7 @@ from typing import IO, NamedTuple
 
 from kulavemia.command import Fault
 from kulavemia.fleet_handed import PROGRAM_FILE, packed, write_below
+from kulavemia.netgroups import NETGROUPS
 from kulavemia.program import NAME, Judge, Policy, Rows
 from kulavemia.requests import Source
 from kulavemia.shown import Form
@@ -86,7 +87,8 @@ def _asked(job: Job, shared: str, folder: str, report: IO[bytes]) -> Answer:
         return os.path.join(shared if name in job.shared else folder, name)
 
     judge = Judge(os.path.join(shared, PROGRAM_FILE), job.judge)
-    policy = Policy(ROOT + job.main, place(USERS), place(HOSTS))
+    netgroups = place(NETGROUPS) if NETGROUPS in {*job.files, *job.shared} else ""
+    policy = Policy(ROOT + job.main, place(USERS), place(HOSTS), netgroups=netgroups)
     sources = [Source(sender, sender, 0, os.path.join(folder, file), None) for sender, file in job.sources]
     words = judge.words(policy, sources, job.threads)
     running = subprocess.Popen(

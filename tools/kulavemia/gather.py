@@ -32,7 +32,7 @@ STATUSES = (DONE, SKIPPED, REFUSED, FAILED)
 # What tools/collect puts into a host's folder.
 _NAMES = frozenset(("tree", "policy", "passwd", "group", "addr.json", "hostname", "logs", "missing"))
 # Names that mean something else beside the folders of hosts, for a directory or a fleet.
-_TAKEN = _NAMES | {GATHERED, "users.csv", "hosts.csv"}
+_TAKEN = _NAMES | {GATHERED, "users.csv", "hosts.csv", "netgroups.csv"}
 _NAME_LIMIT = 200
 _HOST = re.compile(r"(?:[^@\s-][^@\s]*@)?([A-Za-z0-9][A-Za-z0-9._:%-]*)")
 

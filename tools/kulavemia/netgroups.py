@@ -9,7 +9,7 @@ import threading
 from collections.abc import Iterable, Iterator, Sequence
 from typing import IO, NamedTuple, cast
 
-from kulavemia import foreign, limits
+from kulavemia import limits
 from kulavemia.command import FAILED, Fault, warn
 from kulavemia.lines import is_comment
 from kulavemia.policy import files_of, include_of
@@ -26,7 +26,7 @@ _CAP = 1 << 26
 _UNKNOWN = 2
 _OWN_DOMAIN = "/proc/sys/kernel/domainname"
 
-_BINDING = re.compile(rb"(?:Defaults[ \t]*[@>:]?)?")
+_BINDING = re.compile(rb"(?:Defaults[@>:]?)?")
 _TOKEN = re.compile(rb'"((?:[^"\\]|\\.)*)"?|([=,:()])|((?:[^ \t=,:()!"\\]|\\.)+)', re.DOTALL)
 _COMMENT = re.compile(rb"#(?![0-9-])")
 _NO_NAME = re.compile(rb"[\x00-\x1f\x7f\\]")
@@ -180,9 +180,3 @@ def write(folder: str, triples: Sequence[Triple]) -> None:
     if len(triples) > limits.ROWS:
         raise Fault(f"{len(triples)} triples of netgroups, and sudo_review takes {limits.ROWS}")
     write_rows(os.path.join(folder, NETGROUPS), HEADER, triples)
-
-
-def want_plain(path: str) -> None:
-    """Raises `Fault` if a program would wait for a file of netgroups, or read without end."""
-    if path and foreign.exists(path):
-        foreign.want_plain(path, foreign.REQUESTS_CAP)

@@ -39,12 +39,22 @@ MEANING = {PROGRAM: "the program is not there, or refuses; its own line is shown
 
 
 class Policy(NamedTuple):
-    """The policy by which requests are judged. Places in a copy below a root folder are shown without that folder."""
+    """The policy by which requests are judged. Places in a copy below a root folder are shown without that folder.
+
+    The file of netgroups is empty where there is none.
+    """
 
     file: str
     users: str
     hosts: str
     root: str = ""
+    netgroups: str = ""
+
+    def want_plain(self) -> None:
+        """Raises `Fault` if a program would wait for one of the files, or read without end."""
+        want_plain(self.file, foreign.POLICY_CAP)
+        for path in filter(None, (self.users, self.hosts, self.netgroups)):
+            want_plain(path, foreign.REQUESTS_CAP)
 
 
 class Judge(NamedTuple):
@@ -56,6 +66,8 @@ class Judge(NamedTuple):
     def words(self, policy: Policy, sources: Iterable[Source], workers: int) -> list[str]:
         """Returns the words of the command line that judges the sources; no option is read behind `--`."""
         directory = ["--users", as_word(policy.users), "--hosts", as_word(policy.hosts)]
+        if self.name == REVIEW:
+            directory += words_of_netgroups(policy.netgroups)
         named = [f"{source.sender}={source.file}" for source in sources]
         return [self.path, _COMMANDS[self.name], *directory, "--workers", str(workers), "--", policy.file, *named]
 
@@ -84,6 +96,20 @@ def add_review_option(words: ArgumentParser) -> None:
     )
 
 
+def add_netgroups_option(words: ArgumentParser) -> None:
+    """Adds the option that names the file of netgroups."""
+    words.add_argument(
+        "--netgroups",
+        metavar="FILE",
+        help="netgroups.csv: the netgroups of the policy are read as their members; sudo_review alone takes it, and is wanted",
+    )
+
+
+def words_of_netgroups(path: str) -> list[str]:
+    """Returns the words of a command line of `sudo_review` that name a file of netgroups; none without a file."""
+    return ["--netgroups", as_word(path)] if path else []
+
+
 def find(given: str | None, name: str = NAME) -> str:
     """Returns the path of the program of this name. Raises `Fault` if it is not there."""
     variable = name.upper()
@@ -98,12 +124,14 @@ def find(given: str | None, name: str = NAME) -> str:
     raise Fault(f"no program {name}: build it, or name it by {_OPTIONS[name]} or ${variable}", PROGRAM)
 
 
-def find_judge(given: str | None, review: str | None) -> Judge:
+def find_judge(given: str | None, review: str | None, has_netgroups: bool = False) -> Judge:
     """Returns the program that judges requests: the second one, which reads more, or the first where that is not there.
 
     A program that the command line or the environment names comes before one that is found. Raises `Fault` if there is
-    none.
+    none. Netgroups are read by the second one alone.
     """
+    if has_netgroups:
+        return Judge(find(review, REVIEW), REVIEW)
     named = (review, REVIEW), (given, NAME), (os.environ.get(REVIEW.upper()), REVIEW), (os.environ.get(NAME.upper()), NAME)
     name = next((name for path, name in named if path), None)
     if name is not None:
@@ -136,30 +164,30 @@ def said_by(program: str, done: subprocess.CompletedProcess[bytes], out: bytes, 
 
 def named_by(said: Fault, policy: Policy) -> Fault:
     """Returns a program's refusal behind the path of the users or the hosts, of which it says only that they are these."""
-    for kind, path in (("users", policy.users), ("hosts", policy.hosts)):
+    for kind, path in (("users", policy.users), ("hosts", policy.hosts), ("netgroups", policy.netgroups)):
         if str(said).startswith((f"{NAME}: {kind}: ", f"{REVIEW}: {kind}: ")):
             return Fault(f"{path}: {said}", PROGRAM)
     return said
 
 
-def check(program: str, policy: str, root: str = "") -> str:
-    """Returns the program's findings on a policy. Raises `Fault` if it refuses the policy."""
-    want_plain(policy, foreign.POLICY_CAP)
-    words = [program, "check", "--", policy]
+def check(program: str, policy: Policy) -> str:
+    """Returns the findings of `sudo_review` on a policy. Raises `Fault` if it refuses the policy."""
+    policy.want_plain()
+    words = [program, "check", *words_of_netgroups(policy.netgroups), "--", policy.file]
     done = subprocess.run(words, stdout=subprocess.PIPE, stderr=subprocess.PIPE, check=False)
     if done.returncode != 0:
-        raise said_by(program, done, done.stdout, root)
+        raise named_by(said_by(program, done, done.stdout, policy.root), policy)
     found = os.fsdecode(done.stdout)
-    return found.replace(root, "") if root else found
+    return found.replace(policy.root, "") if policy.root else found
 
 
 def audit(
     judge: Judge, policy: Policy, sources: Sequence[Source], out: str, workers: int = 2, form: Form = Form()
 ) -> None:
     """Writes the report of all sources, in runs that the program takes. Raises `Fault` if it refuses."""
-    want_plain(policy.file, foreign.POLICY_CAP)
-    for path in (policy.users, policy.hosts, *(source.file for source in sources)):
-        want_plain(path, foreign.REQUESTS_CAP)
+    policy.want_plain()
+    for source in sources:
+        want_plain(source.file, foreign.REQUESTS_CAP)
     total = len(sources)
     done = 0
     with outputs.written(out) as report, Progress("judging", total) as progress:

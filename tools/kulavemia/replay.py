@@ -9,6 +9,7 @@ from typing import NamedTuple
 from kulavemia import compare, differences, directory, evidence, foreign, logs, missing, probe, program, record, review
 from kulavemia import signing, sorting, unknown, unread
 from kulavemia.command import WORDS, Fault, warn
+from kulavemia.netgroups import NETGROUPS
 from kulavemia.page import REPORT, Inputs, Page, want_jinja
 from kulavemia.page import write as write_page
 from kulavemia.policy import files_of, read
@@ -48,6 +49,7 @@ class Options(NamedTuple):
     old_policy: str | None
     old_tree: str | None
     directory: str | None
+    netgroups: str | None
     programs: str
     no_probe: bool
     at_most: int | None
@@ -69,10 +71,13 @@ class Policy(NamedTuple):
 
 
 class Directory(NamedTuple):
-    """The directory of a replay: its files, and what they are made of where nobody made them."""
+    """The directory of a replay: its files, that of netgroups where there is one, and what they are made of where nobody made
+    them.
+    """
 
     users: str
     hosts: str
+    netgroups: str
     people: Sequence[directory.Person] = ()
     machines: Sequence[directory.Machine] = ()
 
@@ -142,11 +147,13 @@ def _directory(given: Options) -> Directory:
     """Returns the users and hosts files, to be made out of what was collected where none are named."""
     folder = given.directory or os.path.join(given.out, DIRECTORY)
     users, hosts = os.path.join(folder, "users.csv"), os.path.join(folder, "hosts.csv")
+    there = os.path.join(given.directory, NETGROUPS) if given.directory else ""
+    named = given.netgroups or (there if there and foreign.exists(there) else "")
     if given.directory:
-        return Directory(users, hosts)
+        return Directory(users, hosts, named)
     assert given.collected is not None
     found = directory.collected(given.collected)
-    return Directory(users, hosts, directory.merged(found), [host.machine for host in found])
+    return Directory(users, hosts, named, directory.merged(found), [host.machine for host in found])
 
 
 def _collected_logs(collected: str) -> list[str]:
@@ -170,12 +177,13 @@ def described(given: Options, found: Given) -> Described:
 
 
 def _directory_files(given: Options, found: Directory) -> list[File]:
-    """Returns what the users and hosts files are like, or the collected files of which they are made."""
+    """Returns what the users and hosts files are like, or the collected files of which they are made, and that of netgroups."""
+    netgroups = [file_of(path, foreign.REQUESTS_CAP) for path in (found.netgroups,) if path]
     if given.directory:
-        return [file_of(path, foreign.REQUESTS_CAP) for path in (found.users, found.hosts)]
+        return [file_of(path, foreign.REQUESTS_CAP) for path in (found.users, found.hosts)] + netgroups
     below = given.collected or ""
     paths = [os.path.join(below, name) for name in COLLECTED]
-    return [file_of(path, foreign.ACCOUNTS_CAP, below) for path in paths if foreign.exists(path, below)]
+    return [file_of(path, foreign.ACCOUNTS_CAP, below) for path in paths if foreign.exists(path, below)] + netgroups
 
 
 def _log(path: str, below: str | None) -> File:
@@ -219,7 +227,7 @@ class Replay:
         self.say = say
         self.program = program.find(given.program)
         self.second = program.find(given.review, program.REVIEW)
-        self.judge = program.find_judge(given.program, given.review)
+        self.judge = program.find_judge(given.program, given.review, bool(self.found.directory.netgroups))
         self.requests = ""
         self.probe = ""
         self.changes = ""
@@ -233,7 +241,8 @@ class Replay:
         return os.path.join(self.given.out, name)
 
     def _judged_by(self, policy: Prepared) -> program.Policy:
-        return program.Policy(policy.file(), self.found.directory.users, self.found.directory.hosts, policy.root)
+        found = self.found.directory
+        return program.Policy(policy.file(), found.users, found.hosts, policy.root, found.netgroups)
 
     def run(self) -> None:
         """Runs the steps that are not done yet."""
@@ -242,7 +251,9 @@ class Replay:
                 warn(warning)
         self._write_copies()
         policy, old = self.found.policy.prepared, self.found.old_policy
-        found = program.check(self.second, policy.file(), policy.root)
+        if self.found.directory.netgroups:
+            self.say(f"netgroups: {self.found.directory.netgroups}")
+        found = program.check(self.second, self._judged_by(policy))
         self.say(f"check: {len(found.splitlines()) - 1} warnings")
         if self.found.logs:
             self._read_logs()

@@ -14,7 +14,7 @@ from typing import BinaryIO, NamedTuple
 from kulavemia import foreign, outputs
 from kulavemia.command import DONE, PROGRAM, Fault, as_word
 from kulavemia.policy import files_of
-from kulavemia.program import Policy, Rows, named_by, said_by, want_plain, want_written
+from kulavemia.program import Policy, Rows, named_by, said_by, want_plain, want_written, words_of_netgroups
 from kulavemia.requests import Source, batches, number_of
 from kulavemia.rows import header_of, open_write, read_open
 from kulavemia.rules import shown_line
@@ -149,11 +149,9 @@ class Asked(NamedTuple):
     @contextlib.contextmanager
     def _printed(self, name: str, words: Sequence[str], limit: float | None = None) -> Iterator[BinaryIO]:
         """Yields what a command of the program prints. Raises `Fault` if it refuses, and `TimeoutExpired` beyond a limit."""
-        want_plain(self.policy.file, foreign.POLICY_CAP)
-        for path in (self.policy.users, self.policy.hosts):
-            want_plain(path, foreign.REQUESTS_CAP)
+        self.policy.want_plain()
         with outputs.scratch() as part:
-            line = [self.program, name, *words]
+            line = [self.program, name, *words_of_netgroups(self.policy.netgroups), *words]
             quiet = subprocess.DEVNULL
             done = subprocess.run(line, stdin=quiet, stdout=part, stderr=subprocess.PIPE, check=False, timeout=limit)
             part.seek(0)

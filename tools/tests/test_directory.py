@@ -441,7 +441,7 @@ class Netgroups(Case):
             ("User_Alias A = +a : B = !+b, +a", "a b"),
             ("Runas_Alias A = +a", "a"),
             ("Host_Alias A = +a, web1", "a"),
-            ("Defaults:+a lecture\nDefaults@+b lecture\nDefaults>+c, !+d lecture\nDefaults : +e lecture", "a b c d e"),
+            ("Defaults:+a lecture\nDefaults@+b lecture\nDefaults>+c, !+d lecture", "a b c d"),
             ('"+a" ALL = ("+b") ALL', "a b"),
             ("+a-b.c_d@e ALL = ALL", "a-b.c_d@e"),
             ("+a#x ALL = ALL", "a"),

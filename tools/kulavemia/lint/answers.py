@@ -3,6 +3,7 @@
 import os
 import re
 import subprocess
+from collections.abc import Sequence
 from dataclasses import dataclass, replace
 
 from kulavemia import foreign, limits
@@ -148,24 +149,27 @@ def report_of(path: str, status: int, output: str, complaint: str) -> Report:
     return Report(path, status, tuple(found))
 
 
-def check(program: str, path: str) -> Report:
-    """Returns the report of `check` on a file."""
+def check(program: str, path: str, options: Sequence[str] = ()) -> Report:
+    """Returns the report of `check` on a file, with these options."""
     word = as_word(path)
     try:
         _want_file(word)
-        words = [program, "check", "--", word]
+        words = [program, "check", *options, "--", word]
         done = subprocess.run(words, stdin=subprocess.DEVNULL, capture_output=True, check=False)
     except (Fault, OSError, ValueError) as error:
         return no_answer(word, str(error))
     return report_of(word, done.returncode, os.fsdecode(done.stdout), os.fsdecode(done.stderr))
 
 
-def check_by_both(program: str, review: str, path: str) -> Report:
-    """Returns the report of `check` on a file: of the second program, if it is there and reads further than the first one."""
+def check_by_both(program: str, review: str, path: str, options: Sequence[str] = ()) -> Report:
+    """Returns the report of `check` on a file: of the second program, if it is there and reads further than the first one.
+
+    The options are for the second one.
+    """
     found = check(program, path)
     if not review or found.status != REFUSED:
         return found
-    other = check(review, path)
+    other = check(review, path, options)
     return found if other.status == FAILED or _is_same(found, other) else other
 
 

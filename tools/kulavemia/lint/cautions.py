@@ -12,15 +12,15 @@ from kulavemia.policy import files_of
 _FOUND = (0, 5)
 
 
-def with_cautions(report: Report, program: str, without: Sequence[str], strict: bool) -> Report:
-    """Returns a report of a file with the cautions on it behind its findings.
+def with_cautions(report: Report, program: str, options: Sequence[str], strict: bool) -> Report:
+    """Returns a report of a file with the cautions on it behind its findings, as the program finds them with these options.
 
     They change no status, unless they are to count as errors do. Of a file that cannot be read there are none.
     """
     if report.status == FAILED:
         return report
     try:
-        found = _cautions(program, report.path, without)
+        found = _cautions(program, report.path, options)
     except (Fault, OSError) as fault:
         finding = Finding(report.path, None, None, ERROR, "no-answer", f"no cautions: {fault}")
         return Report(report.path, FAILED, (*report.findings, finding))
@@ -28,10 +28,10 @@ def with_cautions(report: Report, program: str, without: Sequence[str], strict: 
     return Report(report.path, status, (*report.findings, *found))
 
 
-def _cautions(program: str, path: str, without: Sequence[str]) -> list[Finding]:
+def _cautions(program: str, path: str, options: Sequence[str]) -> list[Finding]:
     """Returns the cautions on a file, none if the program refuses it. Raises `Fault` if it gives no answer."""
     word = as_word(path)
-    words = [program, review.CAUTIONS, *(word for name in without for word in ("--without", name)), "--", word]
+    words = [program, review.CAUTIONS, *options, "--", word]
     done = subprocess.run(words, stdin=subprocess.DEVNULL, capture_output=True, check=False)
     if done.returncode == REFUSED:
         return []
