@@ -41,6 +41,9 @@ class Tables(TableCase):
     def test_table_masks(self) -> None:
         self.check_table("masks")
 
+    def test_table_netgroups(self) -> None:
+        self.check_table("netgroups")
+
     def test_table_report(self) -> None:
         self.check_table("report")
 
