@@ -12,8 +12,9 @@ import subprocess
 from collections.abc import Iterable, Iterator, Mapping
 from typing import Any, NamedTuple
 
-from kulavemia import foreign, limits, outputs
+from kulavemia import foreign, limits, netgroups, outputs
 from kulavemia.command import Fault, line_of, warn
+from kulavemia.netgroups import Triple
 from kulavemia.rows import as_text, header_of, records, write_rows
 from kulavemia.unknown import folded
 
@@ -58,11 +59,12 @@ class Machine(NamedTuple):
 
 
 class Host(NamedTuple):
-    """The copied files of a host."""
+    """The copied files of a host; there are no netgroups where none were copied."""
 
     folder: str
     people: list[Person]
     machine: Machine
+    netgroups: list[Triple] | None
 
 
 class _Place(NamedTuple):
@@ -262,7 +264,8 @@ def _host(folder: str, below: str, name: str) -> Host:
         for fields in _lines(os.path.join(folder, "passwd"), below, 7, slice(2, 4))
     )
     people = [groups.person(account) for account in _unique(found, folder)]
-    return Host(name, people, Machine(_host_name(folder, below, name), _copied_addresses(folder, below)))
+    machine = Machine(_host_name(folder, below, name), _copied_addresses(folder, below))
+    return Host(name, people, machine, netgroups.collected(folder, below))
 
 
 def _lines(path: str, below: str, count: int, numbers: slice) -> Iterator[list[str]]:

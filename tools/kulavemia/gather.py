@@ -30,7 +30,7 @@ FAILED = "failed"
 STATUSES = (DONE, SKIPPED, REFUSED, FAILED)
 
 # What tools/collect puts into a host's folder.
-_NAMES = frozenset(("tree", "policy", "passwd", "group", "addr.json", "hostname", "logs", "missing"))
+_NAMES = frozenset(("tree", "policy", "passwd", "group", "addr.json", "hostname", "netgroup", "domain", "logs", "missing"))
 # Names that mean something else beside the folders of hosts, for a directory or a fleet.
 _TAKEN = _NAMES | {GATHERED, "users.csv", "hosts.csv", "netgroups.csv"}
 _NAME_LIMIT = 200

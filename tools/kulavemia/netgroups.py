@@ -9,7 +9,7 @@ import threading
 from collections.abc import Iterable, Iterator, Sequence
 from typing import IO, NamedTuple, cast
 
-from kulavemia import limits
+from kulavemia import foreign, limits
 from kulavemia.command import FAILED, Fault, warn
 from kulavemia.lines import is_comment
 from kulavemia.policy import files_of, include_of
@@ -79,8 +79,49 @@ def of_this_machine(names: Iterable[str]) -> list[Triple]:
         triples = known(name)
         if triples is None:
             warn(f"netgroup {name}: this machine knows no such netgroup; it is written as one of nobody, as for sudo")
-        found += _of_domain(name, triples or [], domain) or [Triple(name, NONE, NONE, "")]
+        found += _stated(name, triples or [], domain)
     return found
+
+
+def collected(folder: str, below: str) -> list[Triple] | None:
+    """Returns the triples of what tools/collect gathered in a folder, as `of_this_machine` does, or `None` without any file."""
+    path, place = os.path.join(folder, "netgroup"), os.path.join(folder, "domain")
+    if not foreign.exists(path, below):
+        return None
+    domain = _domain_of(_text(place, foreign.NAME_CAP, below)) if foreign.exists(place, below) else ""
+    found: list[Triple] = []
+    lines = _text(path, foreign.ACCOUNTS_CAP, below).removesuffix("\n")
+    for number, line in enumerate(lines.split("\n") if lines else (), 1):
+        name = line.partition(" (")[0].rstrip(" ")
+        triples = triples_of(name, line + "\n") if name else None
+        if triples is None:
+            raise Fault(f"{path}:{number}: not a line of getent netgroup")
+        found += _stated(name, triples, domain)
+    return found
+
+
+def _text(path: str, cap: int, below: str) -> str:
+    return foreign.read(path, cap, below).decode("utf-8", "surrogateescape")
+
+
+def merged(hosts: Iterable[tuple[str, Sequence[Triple] | None]]) -> list[Triple] | None:
+    """Returns the triples of all hosts, or `None` if no host has any. Raises `Fault` if hosts differ in a netgroup."""
+    found: dict[str, tuple[str, dict[Triple, None]]] = {}
+    stated = [(folder, triples) for folder, triples in hosts if triples is not None]
+    for folder, triples in stated:
+        of_name: dict[str, dict[Triple, None]] = {}
+        for triple in triples:
+            of_name.setdefault(triple.netgroup, {})[triple] = None
+        for name, own in of_name.items():
+            first, others = found.setdefault(name, (folder, own))
+            if own.keys() != others.keys():
+                raise Fault(f"netgroup {name} of {first} and of {folder} differ; --each writes the files of each host apart")
+    return [triple for _, triples in found.values() for triple in triples] if stated else None
+
+
+def _stated(name: str, triples: Sequence[Triple], domain: str) -> list[Triple]:
+    """Returns the triples of a netgroup that sudo looks at in a domain, or one of nobody."""
+    return _of_domain(name, triples, domain) or [Triple(name, NONE, NONE, "")]
 
 
 def _of_domain(name: str, triples: Sequence[Triple], domain: str) -> list[Triple]:
@@ -106,9 +147,14 @@ def own_domain() -> str:
     """Returns the NIS domain of this machine, empty if it has none that sudo takes for one."""
     try:
         with open(_OWN_DOMAIN, encoding="utf-8", errors="surrogateescape") as file:
-            domain = file.read().strip("\n")
+            return _domain_of(file.read())
     except FileNotFoundError:
         return ""
+
+
+def _domain_of(text: str) -> str:
+    """Returns the domain that a text is, empty if it is none that sudo takes for one."""
+    domain = text.strip("\n")
     return "" if _NO_DOMAIN.search(domain) else domain
 
 

@@ -6,10 +6,10 @@ from collections import Counter
 from collections.abc import Callable, Iterator, Mapping, Sequence
 from typing import NamedTuple
 
-from kulavemia import compare, differences, directory, evidence, foreign, logs, missing, probe, program, record, review
-from kulavemia import signing, sorting, unknown, unread
+from kulavemia import compare, differences, directory, evidence, foreign, logs, missing, netgroups, probe, program, record
+from kulavemia import review, signing, sorting, unknown, unread
 from kulavemia.command import WORDS, Fault, warn
-from kulavemia.netgroups import NETGROUPS
+from kulavemia.netgroups import NETGROUPS, Triple
 from kulavemia.page import REPORT, Inputs, Page, want_jinja
 from kulavemia.page import write as write_page
 from kulavemia.policy import files_of, read
@@ -28,7 +28,7 @@ PAGE = "page.html"
 # More probes are made only where the command line says so.
 PROBES = 1_000_000
 # The files of a collected host that its directory is made of.
-COLLECTED = ("passwd", "group", "addr.json", "hostname")
+COLLECTED = ("passwd", "group", "addr.json", "hostname", "netgroup", "domain")
 RECORD = "review.json"
 # Options that change where and how fast a page is made, or by whom it is signed, and not what it says.
 _NO_INPUTS = ("out", "mode", "workers", "at_most", "program", "review", "sign")
@@ -80,6 +80,7 @@ class Directory(NamedTuple):
     netgroups: str
     people: Sequence[directory.Person] = ()
     machines: Sequence[directory.Machine] = ()
+    triples: Sequence[Triple] | None = None
 
 
 class Given(NamedTuple):
@@ -147,13 +148,14 @@ def _directory(given: Options) -> Directory:
     """Returns the users and hosts files, to be made out of what was collected where none are named."""
     folder = given.directory or os.path.join(given.out, DIRECTORY)
     users, hosts = os.path.join(folder, "users.csv"), os.path.join(folder, "hosts.csv")
-    there = os.path.join(given.directory, NETGROUPS) if given.directory else ""
-    named = given.netgroups or (there if there and foreign.exists(there) else "")
+    there = os.path.join(folder, NETGROUPS)
     if given.directory:
-        return Directory(users, hosts, named)
+        return Directory(users, hosts, given.netgroups or (there if foreign.exists(there) else ""))
     assert given.collected is not None
     found = directory.collected(given.collected)
-    return Directory(users, hosts, named, directory.merged(found), [host.machine for host in found])
+    triples = netgroups.merged((host.folder, host.netgroups) for host in found) if not given.netgroups else None
+    path = given.netgroups or (there if triples is not None else "")
+    return Directory(users, hosts, path, directory.merged(found), [host.machine for host in found], triples)
 
 
 def _collected_logs(collected: str) -> list[str]:
@@ -178,12 +180,13 @@ def described(given: Options, found: Given) -> Described:
 
 def _directory_files(given: Options, found: Directory) -> list[File]:
     """Returns what the users and hosts files are like, or the collected files of which they are made, and that of netgroups."""
-    netgroups = [file_of(path, foreign.REQUESTS_CAP) for path in (found.netgroups,) if path]
+    named = [found.netgroups] if found.netgroups and found.triples is None else []
     if given.directory:
-        return [file_of(path, foreign.REQUESTS_CAP) for path in (found.users, found.hosts)] + netgroups
+        return [file_of(path, foreign.REQUESTS_CAP) for path in (found.users, found.hosts, *named)]
     below = given.collected or ""
     paths = [os.path.join(below, name) for name in COLLECTED]
-    return [file_of(path, foreign.ACCOUNTS_CAP, below) for path in paths if foreign.exists(path, below)] + netgroups
+    copied = [file_of(path, foreign.ACCOUNTS_CAP, below) for path in paths if foreign.exists(path, below)]
+    return copied + [file_of(path, foreign.REQUESTS_CAP) for path in named]
 
 
 def _log(path: str, below: str | None) -> File:
@@ -273,7 +276,10 @@ class Replay:
             if policy.prepared.root:
                 write_copies(self.steps.begin(os.path.basename(policy.prepared.root)), policy.copies)
         if not self.given.directory:
-            directory.write(self.steps.begin(DIRECTORY), self.found.directory.people, self.found.directory.machines)
+            folder, found = self.steps.begin(DIRECTORY), self.found.directory
+            directory.write(folder, found.people, found.machines)
+            if found.triples is not None:
+                netgroups.write(folder, found.triples)
 
     def _read_logs(self) -> None:
         self.requests = self._folder("requests")
@@ -440,8 +446,10 @@ class Replay:
         )
 
     def _made_directory(self) -> list[File]:
-        """Returns what the users and hosts files are like that were made of collected ones, if they were."""
-        tables = (self.found.directory.users, self.found.directory.hosts) if not self.given.directory else ()
+        """Returns what the users, hosts and netgroups files are like that were made of collected ones, if they were."""
+        found = self.found.directory
+        tables = [found.users, found.hosts] if not self.given.directory else []
+        tables += [found.netgroups] if found.triples is not None else []
         return [file_of(path, foreign.REQUESTS_CAP, self.given.out) for path in tables]
 
     def _gathered(self) -> int:

@@ -8,7 +8,7 @@ import subprocess
 from support import EXAMPLES, Case
 
 MACHINE = os.path.join(EXAMPLES, "walkthrough", "machine")
-COPIED = "sh cat chmod cut find getent id mkdir mktemp rm sed tar tr".split()
+COPIED = "sh cat chmod cut find getent grep id mkdir mktemp rm sed sort tar timeout tr".split()
 WRITTEN = {"hostname": "echo shop1.example.org", "ip": "cat /addr.json"}
 
 

@@ -2,10 +2,12 @@
 
 import io
 import os
+import shutil
 import subprocess
 import tarfile
 import time
 import unittest
+from unittest import mock
 
 from machine import MachineCase
 from support import TOOLS, Case
@@ -130,6 +132,39 @@ class Collect(Case):
         with open(os.path.join(os.path.dirname(TOOLS), "VERSION"), encoding="utf-8") as file:
             self.assertEqual(self.run_tool("collect", "--version")[0], f"collect {file.read()}")
         self.assertIn("does not know it", self.collect("--version", status=2)[1])
+
+    def stub_getent(self, *cases: str) -> None:
+        """Puts a getent before that of the machine, which it asks in all other cases."""
+        text = "\n".join(("#!/bin/sh", "case $* in", *cases, f"  *) exec {shutil.which('getent')} \"$@\" ;;", "esac", ""))
+        os.chmod(self.write("bin/getent", text), 0o755)
+        self.enterContext(mock.patch.dict(os.environ, {"PATH": f"{self.path('bin')}:{os.environ['PATH']}"}))
+
+    def test_netgroups_that_the_policy_may_name(self) -> None:
+        self.stub_getent(
+            "  'netgroup -- ops') echo 'ops                   ( ,ann,)' ;;",
+            "  'netgroup -- two words') echo 'two words             (web1,-,)' ;;",
+            "  'netgroup -- fails') exit 1 ;;",
+            "  netgroup*) exit 2 ;;",
+        )
+        main = self.write("sudoers", 'Defaults@+at x\nann,!+ops +-s=(+run:adm) /bin/date +%s\n"+two words" ALL=ALL\n@include d\n')
+        self.write("d", "+ops ALL = ALL\r\nUser_Alias A=\\\n +fails")
+        files, err = self.collect("--policy", main, "--no-logs", status=3)
+        rows = ["%s", "-s", "at", "ops                   ( ,ann,)", "run", "two words             (web1,-,)"]
+        self.assertEqual(sorted(files["netgroup"].decode().splitlines()), sorted(rows))
+        self.assertEqual(err, "collect: netgroup fails: cannot be listed\n")
+        with open("/proc/sys/kernel/domainname", "rb") as file:
+            self.assertEqual(files["domain"], file.read())
+
+    def test_a_netgroup_is_no_option_of_getent(self) -> None:
+        self.stub_getent("  'passwd -- root') exit 1 ;;", "  netgroup*) printf '%-21s ( ,ann,)\\n' \"$2\" ;;")
+        main = self.write("sudoers", "+-s,+--help,+ops ALL = ALL\n")
+        files, err = self.collect("--policy", main, "--no-logs", status=3)
+        self.assertEqual(files["netgroup"].decode(), "ops                   ( ,ann,)\n")
+        self.assertEqual(sorted(err.splitlines()), [f"collect: netgroup {name}: cannot be listed" for name in ("--help", "-s")])
+
+    def test_a_policy_without_netgroups(self) -> None:
+        files, _ = self.collect("--policy", self.write("sudoers", "ann ALL = ALL\n"), "--no-logs")
+        self.assertFalse({"netgroup", "domain"} & files.keys())
 
 
 class Machine(MachineCase):

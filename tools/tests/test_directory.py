@@ -432,6 +432,55 @@ class Netgroups(Case):
         for text in ("", "a", "a (h,u,d)", "b (h,u,d)\n", "a (h,u)\n", "a (h,u,d\n", "a x\n", "a (h,u,d)\nb\n"):
             self.assertIsNone(triples_of("a", text), text)
 
+    def copied(self, folder: str, netgroup: str, domain: str = "(none)") -> None:
+        """Writes the copied files of a host with netgroups."""
+        for name, text in (("passwd", PASSWD), ("group", "x:x:0:\n"), ("addr.json", "[]")):
+            self.write(f"{folder}/{name}", text)
+        self.write(f"{folder}/netgroup", netgroup)
+        self.write(f"{folder}/domain", f"{domain}\n")
+
+    def test_those_of_copied_files(self) -> None:
+        self.copied("all/web1", "ops                   ( ,alice,) (web1,bob,d.org)\ntwo words\nnone                 \n", "x.org")
+        _, err = self.run_tool("directory", "--from", "all/web1", "out")
+        rows = ["netgroup,host,user,domain", "ops,,alice,", "two words,-,-,", "none,-,-,"]
+        self.assertEqual(self.rows("out", "netgroups.csv"), rows)
+        self.assertIn("netgroup ops: 1 of 2 triples are left out, since they are of another domain than x.org\n", err)
+        os.unlink(self.path("all", "web1", "domain"))
+        self.run_tool("directory", "--from", "all/web1", "out")
+        self.assertEqual(self.rows("out", "netgroups.csv")[2], "ops,web1,bob,d.org")
+        self.copied("all/web2", "")
+        os.unlink(self.path("all", "web2", "netgroup"))
+        self.run_tool("directory", "--from", "all", "each", "--each")
+        self.assertEqual(self.read("each", "web1", "netgroups.csv"), self.read("out", "netgroups.csv"))
+        self.assertEqual(sorted(os.listdir(self.path("each", "web2"))), ["hosts.csv", "users.csv"])
+
+    def test_hosts_that_differ_in_netgroups(self) -> None:
+        self.copied("all/web1", "ops                   ( ,alice,) ( ,bob,)\nmore\n")
+        self.copied("all/web2", "ops                   ( ,bob,) ( ,alice,)\nother\n")
+        self.run_tool("directory", "--from", "all", "out")
+        rows = ["netgroup,host,user,domain", "ops,,alice,", "ops,,bob,", "more,-,-,", "other,-,-,"]
+        self.assertEqual(self.rows("out", "netgroups.csv"), rows)
+        self.copied("all/web2", "ops                   ( ,bob,)\n")
+        said = "directory: netgroup ops of web1 and of web2 differ; --each writes the files of each host apart\n"
+        self.assertEqual(self.run_tool("directory", "--from", "all", "out", status=3)[1], said)
+        self.run_tool("directory", "--from", "all", "out", "--each")
+
+    def test_copied_files_that_are_refused(self) -> None:
+        for text, said in (
+            ("ops\nweb ( ,a,\n", "netgroup:2: not a line of getent netgroup"),
+            ("\n\n", "netgroup:1: not a line of getent netgroup"),
+            (" (a,b,c)\n", "netgroup:1: not a line of getent netgroup"),
+            ("ops (a,b,c) x\n", "netgroup:1: not a line of getent netgroup"),
+            ("ops (a,b,c)" * 100_000, "netgroup:1: not a line of getent netgroup"),
+            ("ops                   (10.0.0.1,a,)\n", "netgroup ops: the host 10.0.0.1 is no name that sudo_review takes"),
+        ):
+            self.copied("all/web1", text)
+            self.assertIn(said, self.run_tool("directory", "--from", "all", "out", "--each", status=1)[1])
+        os.unlink(self.path("all", "web1", "netgroup"))
+        os.mkfifo(self.path("all", "web1", "netgroup"))
+        said = "directory: all/web1/netgroup: expected a plain file, found a FIFO\n"
+        self.assertEqual(self.run_tool("directory", "--from", "all", "out", status=3)[1], said)
+
     def test_netgroups_that_a_policy_names(self) -> None:
         for text, names in (
             ("+a ALL = ALL", "a"),

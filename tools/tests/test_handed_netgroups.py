@@ -139,6 +139,29 @@ class Replay(NetgroupCase):
         said = "replay: sudo_review: new:1: unsupported netgroup\n"
         self.assertEqual(self.run_tool("replay", "--policy", "new", "--directory", "d", "--out", "o", status=5)[1], said)
 
+    def test_those_that_were_collected(self) -> None:
+        for name, text in (
+            ("policy", "/etc/sudoers\n"),
+            ("tree/etc/sudoers", "+ops ALL = ALL\n"),
+            ("passwd", "root:x:0:0::/:/bin/sh\nann:x:1:1::/:/bin/sh\n"),
+            ("group", "root:x:0:\nann:x:1:\n"),
+            ("addr.json", "[]"),
+            ("netgroup", "ops                   ( ,ann,)\n"),
+            ("domain", "(none)\n"),
+        ):
+            self.write(f"web1/{name}", text)
+        words = ("replay", "--collected", "web1", "--out", "out", "--no-probe")
+        out, _ = self.run_tool(*words)
+        self.assertEqual(out.splitlines()[0], "netgroups: out/directory/netgroups.csv")
+        self.assertIn("/etc/sudoers:1,ann,ALL,,,ALL,,\n", self.read("out", "review", "grants.csv"))
+        files = {file["path"] for file in json.loads(self.read("out", "review.json"))["files"]}
+        self.assertTrue({"web1/netgroup", "web1/domain", "out/directory/netgroups.csv"} <= files, files)
+        self.write("web1/netgroup", "ops                   ( ,root,)\n")
+        self.assertIn("out is of other inputs (the directory differs)", self.run_tool(*words, status=2)[1])
+        out, _ = self.run_tool(*words[:4], "o", "--no-probe", "--netgroups", "n.csv")
+        self.assertEqual(out.splitlines()[0], "netgroups: n.csv")
+        self.assertFalse(os.path.exists(self.path("o", "directory", "netgroups.csv")))
+
     def test_a_file_that_is_refused(self) -> None:
         said = "replay: bad.csv: sudo_review: netgroups: row 4: bad row\n"
         self.assertEqual(self.replay("--netgroups", "bad.csv", status=5)[1], said)
