@@ -85,10 +85,10 @@ def of_this_machine(names: Iterable[str]) -> list[Triple]:
 
 def collected(folder: str, below: str) -> list[Triple] | None:
     """Returns the triples of what tools/collect gathered in a folder, as `of_this_machine` does, or `None` without any file."""
-    path, place = os.path.join(folder, "netgroup"), os.path.join(folder, "domain")
+    path, place = (os.path.join(folder, name) for name in ("netgroup", "domain"))
     if not foreign.exists(path, below):
         return None
-    domain = _domain_of(_text(place, foreign.NAME_CAP, below)) if foreign.exists(place, below) else ""
+    domain = _domain_in(place, below)
     found: list[Triple] = []
     lines = _text(path, foreign.ACCOUNTS_CAP, below).removesuffix("\n")
     for number, line in enumerate(lines.split("\n") if lines else (), 1):
@@ -100,7 +100,7 @@ def collected(folder: str, below: str) -> list[Triple] | None:
     return found
 
 
-def _text(path: str, cap: int, below: str) -> str:
+def _text(path: str, cap: int, below: str | None) -> str:
     return foreign.read(path, cap, below).decode("utf-8", "surrogateescape")
 
 
@@ -145,16 +145,12 @@ def _want_fit(triple: Triple) -> None:
 
 def own_domain() -> str:
     """Returns the NIS domain of this machine, empty if it has none that sudo takes for one."""
-    try:
-        with open(_OWN_DOMAIN, encoding="utf-8", errors="surrogateescape") as file:
-            return _domain_of(file.read())
-    except FileNotFoundError:
-        return ""
+    return _domain_in(_OWN_DOMAIN)
 
 
-def _domain_of(text: str) -> str:
-    """Returns the domain that a text is, empty if it is none that sudo takes for one."""
-    domain = text.strip("\n")
+def _domain_in(path: str, below: str | None = None) -> str:
+    """Returns the domain that a file has, empty if it has none that sudo takes for one."""
+    domain = _text(path, foreign.NAME_CAP, below).strip("\n") if foreign.exists(path, below) else ""
     return "" if _NO_DOMAIN.search(domain) else domain
 
 
