@@ -22,6 +22,13 @@ TRIPLE_HOSTS = ("", "-", "-", *HOSTS, "WEB1", "web2", "mail", "none.such", "ALL"
 NETGROUPS = ("ng1", "ng2", "ng3", "NG4", "n-g.5", "two words", "none")
 UNKNOWN = ("gone", "ng", "NG1", "ng11")
 NOBODY = {"user": "\\x00", "runas": "\\x00", "host": "no-such-host"}
+# What is put into lines with a netgroup of one user and one host of the same name, which is longer than that of the netgroup.
+PIECES = (
+    *('"+ng1"', "+ng1", "alice", "ALL", "%adm", "A1", "x", "/opt/a", "/16", "NOPASSWD:", "list", "!lecture", "Defaults", "User_Alias "),
+    *(" ", "\t", "\r", "\\\n", " \\\n ", ",", "!", "=", "(", ")", ":", " : ", '"', "\\", "#", "#c", ".", "-", "_", "*", "+", "%", "@", ">"),
+)
+ONLY = "webserver1"
+LINES = 2000
 ALIASES = {"user": "A1", "runas": "R1", "host": "H1"}
 
 
@@ -164,6 +171,24 @@ class Drawn:
         return 0
 
 
+def torn_line(draw: random.Random) -> str:
+    """Returns a line with netgroups into which up to two pieces are put anywhere."""
+
+    def drawn() -> str:
+        members = ('"+ng1"', "+ng1", '!"+ng1"', "!+ng1", "alice", "ALL", ONLY)
+        return draw.choice((",", ", ", " ,")).join(draw.choice(members) for _ in range(draw.randint(1, 2)))
+
+    parts = draw.choice((
+        [drawn(), " ", drawn(), " = ", "(", drawn(), ") ", "/opt/a"],
+        [drawn(), " ", drawn(), " = ", "/opt/a"],
+        ["Defaults", draw.choice(":@>"), drawn(), " ", "!lecture"],
+        [draw.choice(("User", "Host", "Runas")), "_Alias ", "A1", " = ", drawn()],
+    ))
+    for _ in range(draw.randint(0, 2)):
+        parts.insert(draw.randrange(len(parts) + 1), draw.choice(PIECES))
+    return "".join(parts) + "\n"
+
+
 @needs_review
 class Netgroups(Case):
     """Answers to a policy with netgroups, and to the same with their members."""
@@ -217,6 +242,24 @@ class Netgroups(Case):
         self.assertGreater(read, POLICIES // 2)
         self.assertGreater(refused, POLICIES // 50)
         self.assertGreater(allowed, POLICIES // 2)
+
+    def test_a_line_is_read_as_that_with_a_name_in_its_place(self) -> None:
+        self.write("n", f"netgroup,host,user,domain\nng1,{ONLY},{ONLY},\n")
+        self.write("users", f"user,uid,gid,group\nroot,0,0,root\nalice,1000,4,adm\n{ONLY},1001,100,own\n")
+        self.write("hosts", f"host,interfaces\n{ONLY},\ndb1,\n")
+        words, read = ("p", "--users", "users", "--hosts", "hosts"), 0
+        for number in range(LINES):
+            text = torn_line(random.Random(f"line.{number}"))
+            if not re.search(r'(?<![^ \t,!=(:"@>\n])\+ng1', text) or re.search(r'[^ \t,!=(:"@>\n]\+ng1', text):
+                continue
+            self.write("p", text)
+            status, found, _ = self.ran("grants", *words, "--netgroups", "n")
+            if status == 0:
+                read += 1
+                self.write("p", text.replace("+ng1", ONLY))
+                with self.subTest(text=text):
+                    self.assertEqual((0, found.replace("+ng1", ONLY)), self.ran("grants", *words)[:2])
+        self.assertGreater(read, LINES // 10)
 
 
 if __name__ == "__main__":
