@@ -24,8 +24,9 @@ UNKNOWN = ("gone", "ng", "NG1", "ng11")
 NOBODY = {"user": "\\x00", "runas": "\\x00", "host": "no-such-host"}
 # What is put into lines with a netgroup of one user and one host of the same name, which is longer than that of the netgroup.
 PIECES = (
-    *('"+ng1"', "+ng1", "alice", "ALL", "%adm", "A1", "x", "/opt/a", "/16", "NOPASSWD:", "list", "!lecture", "Defaults", "User_Alias "),
-    *(" ", "\t", "\r", "\\\n", " \\\n ", ",", "!", "=", "(", ")", ":", " : ", '"', "\\", "#", "#c", ".", "-", "_", "*", "+", "%", "@", ">"),
+    *('"+ng1"', "+ng1", "alice", "ALL", "%adm", "A1", "x", "/opt/a", "/16", "NOPASSWD:", "list", "!lecture"),
+    *("Defaults", "User_Alias ", "#c", " ", "\t", "\r", "\\\n", " \\\n ", ",", "!", "=", "(", ")", ":", " : "),
+    *('"', "\\", "#", ".", "-", "_", "*", "+", "%", "@", ">"),
 )
 ONLY = "webserver1"
 LINES = 2000
