@@ -1,6 +1,6 @@
 """What a change of a policy does to every command: rows of `sudo_review compare`, as people open them.
 
-A row of the kind `may` is not settled: some command may be answered otherwise there.
+A row of the kind `may` is not settled: some command may be answered otherwise there, or is, and that depends on what is not judged.
 """
 
 import re
@@ -15,6 +15,7 @@ from kulavemia.answers import Verdict
 from kulavemia.command import Fault
 from kulavemia.compare import CHANGES, MAY, kind_of
 from kulavemia.review import COMPARE, HEADERS, Asked, without
+from kulavemia.rows import header_of
 from kulavemia.shown import shown_records
 
 KINDS = CHANGES
@@ -22,8 +23,8 @@ KINDS = CHANGES
 GAINS = ("gained", "gained and lost", MAY)
 # Seconds after which a comparison is given up.
 LIMIT = 600.0
-_REFUSES = "sudo_review compare refuses rules that depend on a digest, the time or another root"
-# So the program refuses a policy of which it reads more elsewhere.
+_REFUSES = "sudo_review compare refuses a form of rules"
+# So the program names a form that it does not read.
 _UNREAD = re.compile(r":[0-9]+: unsupported (?:option|digest)$")
 
 
@@ -43,6 +44,7 @@ class Difference(NamedTuple):
     new: str
     new_place: str
     new_tags: str
+    depends: str = ""
 
     def kind(self) -> str:
         """Returns the kind of change: that of a request with these answers, or `may`."""
@@ -95,8 +97,9 @@ def _without_roots(row: Difference, old: Asked, new: Asked) -> Difference:
 
 
 def read(path: str) -> Iterator[Difference]:
-    """Yields the rows of a table."""
-    for _, fields in shown_records(path, HEADERS[COMPARE]):
+    """Yields the rows of a table; earlier ones have no column `depends`."""
+    *earlier, _ = HEADERS[COMPARE]
+    for _, fields in shown_records(path, earlier if header_of(path) == earlier else HEADERS[COMPARE]):
         yield Difference(*fields)
 
 

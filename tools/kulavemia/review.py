@@ -46,6 +46,7 @@ HEADERS: Mapping[str, Sequence[str]] = {
         "new",
         "new_place",
         "new_tags",
+        "depends",
     ),
 }
 # The words of the command line behind the name of a table, and its statuses where it was printed whole.

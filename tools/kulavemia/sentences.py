@@ -267,7 +267,11 @@ def of_differences(counts: Mapping[str, int]) -> Iterator[str]:
     told = ((gained, "users gain something"), (lost, "users lose something"), (other, "the answer changes otherwise"))
     parts = [f"in {counted(count, 'row')} {what}" for count, what in told if count]
     if counts.get("may"):
-        parts.append(f"in {counted(counts['may'], 'row')} it may change")
+        may = f"in {counted(counts['may'], 'row')} it may change"
+        if not parts:
+            yield f"{start}no command is known to be answered otherwise, but {may}."
+            return
+        parts.append(may)
     yield f"{start}some commands are answered otherwise: {listed(parts)}."
 
 

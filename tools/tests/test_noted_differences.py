@@ -25,6 +25,7 @@ FIRST = int(os.environ.get("FIRST", "0"))
 MOST_NOTES = 4
 USERS = ("root", "ann", "bob")
 TARGETS = ("", *USERS)
+GROUPS = ("", "staff")
 LISTS = ("ann", "bob", "ann, bob", "ALL")
 RUNAS = ("", "", "(bob)", "(ALL)")
 TAGS = ("", "", "NOPASSWD", "PASSWD", "NOEXEC")
@@ -80,10 +81,11 @@ class Rule(NamedTuple):
 
 
 class Cell(NamedTuple):
-    """A user who asks for a target, empty if none is asked for."""
+    """A user who asks for a target and a group, each empty if none is asked for."""
 
     user: str
     target: str
+    group: str
 
 
 class Row(NamedTuple):
@@ -184,7 +186,7 @@ class Noted(Drawn):
 
     def setUp(self) -> None:
         super().setUp()
-        self.write("users", "user,uid,groups\nroot,0,\nann,1001,\nbob,1002,\n")
+        self.write("users", "user,uid,groups\nroot,0,staff:50\nann,1001,staff:50\nbob,1002,staff:50\n")
         self.write("hosts", "host,interfaces\nweb1,\n")
 
     def compared(self, old: str, new: str) -> list[Row]:
@@ -199,15 +201,16 @@ class Noted(Drawn):
         return [self.row(*row) for row in rows]
 
     def row(self, users: str, hosts: str, targets: str, groups: str, *row: str) -> Row:
-        """Returns a row by its fields. Fails where it is about a group."""
-        self.assertEqual((hosts, groups), ("ALL", ""))
+        """Returns a row by its fields. Fails where it is not about the host."""
+        self.assertEqual(hosts, "ALL")
         listed = [USERS if names == "ALL" else names.split(", ") for names in (users, targets)]
+        listed.append(["staff" if groups else ""])
         return Row([Cell(*cell) for cell in itertools.product(*listed)], *row[:3], Said(*row[3:6]), Said(*row[6:9]), row[9])
 
     def said(self, policy: str, name: str, requests: Sequence[tuple[Cell, str, str]]) -> list[Said]:
         """Returns what `sudo_audit` says to requests under a policy, whose file has this name in places."""
         asked = [
-            f"{number},{cell.user},web1,{cell.target},,{command},{arguments}\n"
+            f"{number},{cell.user},web1,{cell.target},{cell.group},{command},{arguments}\n"
             for number, (cell, command, arguments) in enumerate(requests, 1)
         ]
         self.write("p", policy)
@@ -218,7 +221,7 @@ class Noted(Drawn):
     def check(self, old: Sequence[Rule], new: Sequence[Rule], rows: Sequence[Row]) -> None:
         """Fails where a version of the policies contradicts the rows of their comparison."""
         found = {cell for row in rows for cell in row.cells}
-        without = [Cell(*cell) for cell in itertools.product(USERS, TARGETS) if Cell(*cell) not in found]
+        without = [cell for cell in itertools.starmap(Cell, itertools.product(USERS, TARGETS, GROUPS)) if cell not in found]
         shown = [(row, cell) for row in rows if row.answer != "may" for cell in row.cells]
         witnesses = [(cell, row.command, row.arguments) for row, cell in shown]
         probes = [(cell, command, "") for cell in without for command in PROBES]

@@ -118,7 +118,7 @@ class Replay(Case):
     def test_a_comparison_that_the_program_refuses(self) -> None:
         files = [self.write(f"{folder}/etc/sudoers", "") for folder in ("old", "new")]
         for said, reason in (
-            ("new/etc/sudoers:3: unsupported digest", "another root (sudo_review: /etc/sudoers:3: unsupported digest)"),
+            ("new/etc/sudoers:3: unsupported digest", "a form of rules (sudo_review: /etc/sudoers:3: unsupported digest)"),
             ("old/etc/sudoers:3: unsupported option", "(sudo_review: /etc/sudoers:3: unsupported option, in the policy before)"),
             ("new/etc/sudoers:3: unsupported list", ""),
             ("new/etc/sudoers:3:1: syntax error, expected =", ""),
@@ -382,21 +382,21 @@ class Replay(Case):
         words = ("--tree", "new", "--old-tree", "old", "--directory", "d", "--no-probe")
         out, err = self.replay(*words, status=1, domain="")
         self.assertIn("changes: 0 gained, 0 gained and lost, 0 lost, 0 other, 1 may\n", out)
-        self.assertNotIn("differences:", out)
-        reason = "(sudo_review: /etc/sudoers:2: unsupported digest, in the policy before)"
-        self.assertIn("replay: warning: the policies are not compared for every command: sudo_review compare refuses", err)
-        self.assertIn(f"{reason}\n", err)
-        self.assertFalse(os.path.exists(self.path("out", "differences.csv")))
+        self.assertIn("differences: 0 gained, 0 gained and lost, 0 lost, 0 other, 3 may\n", out)
+        table = [*csv.DictReader(self.rows("out", "differences.csv"))]
+        self.assertEqual({(row["users"], row["answer"], row["depends"]) for row in table}, {("ann", "may", "digest time")})
         record = json.loads(self.read("out", "review.json"))
         self.assertEqual(faults_of(record), [])
-        self.assertTrue(record["uncompared"].endswith(reason))
+        self.assertIsNone(record["uncompared"])
+        self.assertEqual(record["differences"]["may"]["rows"], table)
         said = " ".join(record["sentences"])
-        self.assertIn(f"not judged for every command: {record['uncompared']}.", said)
+        self.assertIn("no command is known to be answered otherwise, but in three rows it may change.", said)
         self.assertIn("none is known to gain or lose anything.", said)
         self.assertIn("Only one of the two policies has two constructs", said)
         page = self.read("out", "page.html")
-        self.assertTrue("What changes was not judged for every command" in page and "May change: 1" in page)
-        self.assertFalse("Nothing: both policies" in page or self.folder in page)
+        for part in ("May change: 3", "May change: 1", "<small>depends on a digest and the time</small>"):
+            self.assertTrue(part in page, part)
+        self.assertFalse("was not judged for every command" in page or "Nothing: both policies" in page or self.folder in page)
         # A further run says the same.
         self.assertEqual(self.replay(*words, status=1, domain=""), (out, err))
 

@@ -22,8 +22,8 @@ pub enum Compared {
     Same,
     /// Different answers to these commands: at most one command for each kind of change.
     Differs(Seq<Witness>),
-    /// Not settled: a command that these two rows match may have different answers. If what is noted may decide, something is noted
-    /// before one of them.
+    /// Not settled: a command that these two rows match may have different answers. If something is noted before a row near the
+    /// change that may match it too, then before one of these.
     May {
         /// The row of the old policy.
         old: Option<Decider>,
@@ -73,37 +73,46 @@ fn is_noted(row: Option<Ruled<'_>>) -> bool {
     }
 }
 
-// Returns the last row before which something is noted, if there is one.
-fn last_noted<'a>(rows: &[Ruled<'a>]) -> Option<Ruled<'a>> {
+// Whether both rows may fit one command, if there are both.
+fn meet(own: Option<Ruled<'_>>, row: &Ruled<'_>) -> bool {
+    match own {
+        None => false,
+        Some(own) => !own.shape.is_disjoint(row.shape),
+    }
+}
+
+// Returns the last row that meets these and before which something is noted, if there is one.
+fn last_noted<'a>(overlap: Overlap<'_>, rows: &[Ruled<'a>]) -> Option<Ruled<'a>> {
     let mut found = None;
     for row in rows {
-        if !is_unnoted(row.before) {
+        if !is_unnoted(row.before) && (meet(overlap.old, row) || meet(overlap.new, row)) {
             found = Some(*row);
         }
     }
     found
 }
 
-// Returns the rows that may answer otherwise: with one before which something is noted, if there is any near the change. It stands
-// where no row does; otherwise in place of the row of its policy.
+// Returns the rows that may answer otherwise, of those near the change. A row before which something is noted, and which meets
+// these, stands where none does; and in place of one, if nothing is noted before either.
 fn with_noted<'a>(overlap: Overlap<'a>, old: &[Ruled<'a>], new: &[Ruled<'a>]) -> Overlap<'a> {
-    if is_noted(overlap.old) || is_noted(overlap.new) {
-        return overlap;
-    }
-    let (noted_old, noted_new) = (last_noted(old), last_noted(new));
-    if noted_old.is_some() && (overlap.old.is_none() || noted_new.is_none()) {
-        return Overlap {
-            old: noted_old,
-            new: overlap.new,
-        };
+    let (noted_old, noted_new) = (last_noted(overlap, old), last_noted(overlap, new));
+    let both = Overlap {
+        old: overlap.old.or(noted_old),
+        new: overlap.new.or(noted_new),
+    };
+    if is_noted(both.old) || is_noted(both.new) {
+        return both;
     }
     if noted_new.is_some() {
         return Overlap {
-            old: overlap.old,
+            old: both.old,
             new: noted_new,
         };
     }
-    overlap
+    Overlap {
+        old: noted_old.or(both.old),
+        new: both.new,
+    }
 }
 
 // The most rows of a policy that are compared pair by pair.
