@@ -1,6 +1,7 @@
 """What a change of a policy does to every command: rows of `sudo_review compare`, as people open them.
 
-A row of the kind `may` is not settled: some command may be answered otherwise there, or is, and that depends on what is not judged.
+A row of the kind `may` is not settled: some command may be answered otherwise there, also where that depends on what is not
+judged.
 """
 
 import re

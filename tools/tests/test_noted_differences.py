@@ -162,8 +162,8 @@ class Draw:
             commands[at] = commands[at]._replace(tag=self.random.choice(TAGS))
         else:
             kind = self.random.choice([*NOTES])
-            notes = self.random.choice(({}, {kind: self.random.choice(NOTES[kind])}))
-            commands[at] = commands[at]._replace(notes=notes)
+            choices: Sequence[Mapping[str, str]] = ({}, {kind: self.random.choice(NOTES[kind])})
+            commands[at] = commands[at]._replace(notes=self.random.choice(choices))
         return commands
 
 
@@ -205,7 +205,9 @@ class Noted(Drawn):
         self.assertEqual(hosts, "ALL")
         listed = [USERS if names == "ALL" else names.split(", ") for names in (users, targets)]
         listed.append(["staff" if groups else ""])
-        return Row([Cell(*cell) for cell in itertools.product(*listed)], *row[:3], Said(*row[3:6]), Said(*row[6:9]), row[9])
+        answer, command, arguments = row[:3]
+        cells = [Cell(*cell) for cell in itertools.product(*listed)]
+        return Row(cells, answer, command, arguments, Said(*row[3:6]), Said(*row[6:9]), row[9])
 
     def said(self, policy: str, name: str, requests: Sequence[tuple[Cell, str, str]]) -> list[Said]:
         """Returns what `sudo_audit` says to requests under a policy, whose file has this name in places."""

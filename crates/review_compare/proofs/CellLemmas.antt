@@ -26,7 +26,8 @@ use Rattle.review_roots.proofs.NoteLemmas.{holds-of-no-note}
 use Rattle.review_compare.specs.Agreement.{AreSound, answer_of}
 use Rattle.review_compare.specs.Compared.{said}
 use Rattle.review_compare.specs.Lines.{Choice, Line, Lined, all_met, at_line, fits_where, is_met, is_note_atom, is_unnoted, noted, nowhere}
-use Rattle.review_compare.specs.Cells.{AgreeingRowsSaySame, Decider, RequestsAnsweredSame, RowsDecide, Wide, answered_by, answered_if_any, covers_always}
+use Rattle.review_compare.specs.Cells.{AgreeingRowsSaySame, Decider, RequestsAnsweredSame, RowsDecide, Wide, answered_by}
+use Rattle.review_compare.specs.Cells.{answered_if_any, covers_always}
 use Rattle.review_compare.specs.Cells.{deciders, line_after, lined, lined_of, policy_rows, rows_agree, ruling_by, simple_tests}
 use Rattle.review_compare.specs.Cells.{verdict_among, verdict_where, wide_of, wide_stands, with_before}
 use Rattle.review_compare.specs.Simply.{covers_simply}

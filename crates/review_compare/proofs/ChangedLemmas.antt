@@ -86,7 +86,8 @@ Rulings = List (Ruling Lined (Option Tags))
 -- where the rows in the middle do not fit, those before and behind them decide
 without-middle : (ps ms ss : List Decider) (met : Choice) (c x : List ℕ) → is_fitted ms c x ≡ false →
     last_that (λ r. fits_where met c x r.atom) (map ruling_by (ps ++ (ms ++ ss)))
-    ≡ option_or (last_that (λ r. fits_where met c x r.atom) (map ruling_by ss)) (last_that (λ r. fits_where met c x r.atom) (map ruling_by ps))
+    ≡ option_or (last_that (λ r. fits_where met c x r.atom) (map ruling_by ss))
+    (last_that (λ r. fits_where met c x r.atom) (map ruling_by ps))
 without-middle ps ms ss met c x e =
     let T : Rulings → Option (Ruling Lined (Option Tags)) = last_that (λ r. fits_where met c x r.atom) in
     ap T (map-append ruling_by ps (ms ++ ss) ∙ ap (λ (rs : Rulings). map ruling_by ps ++ rs) (map-append ruling_by ms ss))

@@ -18,7 +18,8 @@ use Rattle.review_compare.specs.declared.walk.Walk.{Walk}
 use Rattle.review_compare.specs.Blocks.{block_wide, block_wides}
 use Rattle.review_compare.specs.Cells.{Wide, line_after, lined, lined_one, wide_of, with_before}
 use Rattle.review_compare.specs.Lines.{Line, at_line, is_note_atom, noted}
-use Rattle.review_compare.specs.Body.LineAtoms.{IsWalk, block_atoms, has_note, kept_row, line_behind, row_atom, turned, wide_atom, with_atom}
+use Rattle.review_compare.specs.Body.LineAtoms.{IsWalk, block_atoms, has_note, kept_row, line_behind, row_atom, turned}
+use Rattle.review_compare.specs.Body.LineAtoms.{wide_atom, with_atom}
 use Rattle.review_compare.proofs.ChangedLemmas.{or-parts}
 use Rattle.review_compare.proofs.RulingLemmas.{drop-at}
 

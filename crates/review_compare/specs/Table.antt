@@ -1,6 +1,6 @@
 -- The table of the differences of two policies, as CSV.
-use Rattle.std.specs.Prelude.{ℕ, ◌==◌, if◌then◌else◌, List, [], ◌∷◌, ◌++◌, codes, drop, filter, flat_map, length, map, slice_get, Option, Some}
-use Rattle.std.specs.Prelude.{None}
+use Rattle.std.specs.Prelude.{ℕ, ◌==◌, if◌then◌else◌, List, [], ◌∷◌, ◌++◌, codes, drop, filter, flat_map, length, map, slice_get}
+use Rattle.std.specs.Prelude.{None, Option, Some}
 use Rattle.csv.specs.Writing.{default_writer, field_text, fields_text}
 use Rattle.audit_files.specs.Report.{verdict_place, verdict_tags, verdict_word}
 use Rattle.sudo_text.specs.declared.line.Place.{Place}
