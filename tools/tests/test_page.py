@@ -202,17 +202,22 @@ class Made(Case):
 
     def test_what_changes_for_every_command(self) -> None:
         header = ",".join(HEADERS[COMPARE]) + "\n"
-        rows = '"ann, bob",ALL,root,,gained,/bin/x,-v,nomatch,,,allow,p:1,\n' * 3
-        rows += 'cid,ALL,root,,other,/bin/x,,allow,p:1,,allow,p:1,NOPASSWD\ndora,ALL,root,,may,,,allow,p:2,,deny,p:3,\n'
+        rows = '"ann, bob",ALL,root,,gained,/bin/x,-v,nomatch,,,allow,p:1,,\n' * 3
+        rows += "cid,ALL,root,,other,/bin/x,,allow,p:1,,allow,p:1,NOPASSWD,\n"
+        rows += "dora,ALL,root,,may,,,allow,p:2,,deny,p:3,,digest time\n"
         path = self.write("d.csv", header + rows)
         page = Page(Inputs("t", differences=path, rows=2))
         text = rendered(page)
         for said in ("Gained: 4", "2 of 4 rows are shown.", "May change: 1", "<code>/bin/x -v</code>", "nor is it settled"):
             self.has(text, said)
+        self.has(text, "<small>depends on a digest and the time</small>")
         said = "some commands are answered otherwise: in four rows users gain something and in one row it may change."
         self.has(" ".join(page.sentences()), said)
         found = record_of(page)["differences"]
         self.assertEqual((found["gained"]["count"], len(found["gained"]["rows"]), found["gained"]["left_out"]), (4, 2, 2))
+        earlier = header.replace(",depends", "") + "cid,ALL,root,,lost,/bin/x,,allow,p:1,,nomatch,,\n"
+        page = Page(Inputs("t", differences=self.write("d.csv", earlier)))
+        self.assertEqual(record_of(page)["differences"]["lost"]["rows"][0]["depends"], "")
         page = Page(Inputs("t", differences=self.write("d.csv", header)))
         self.has(rendered(page), "Nothing: both policies answer every command alike.")
         self.has(" ".join(page.sentences()), "every command is answered as it was, to each known user on each known host.")
