@@ -1,6 +1,6 @@
 -- The members for which a netgroup stands in a list: sudoers(5), "Aliases", "User_List" and "Host_List"; netgroup(5). A list
 -- of users has the users of the netgroup's triples, on whichever host, and a list of hosts has their hosts, of whichever user.
-use Rattle.std.specs.Prelude.{ℕ, ◌+◌, ◌-◌, ◌%◌, Bool, true, false, not, ◌&&◌, ◌||◌, ◌==◌, if◌then◌else◌, List, [], ◌∷◌, ◌++◌}
+use Rattle.std.specs.Prelude.{ℕ, ◌+◌, ◌-◌, ◌%◌, Bool, true, false, not, ◌&&◌, ◌||◌, ◌==◌, nat_le, if◌then◌else◌, List, [], ◌∷◌, ◌++◌}
 use Rattle.std.specs.Prelude.{length, drop, reverse, slice_index, codes, count_by, filter_map, fold, Option, None, Some}
 use Rattle.std.specs.List.{list_all, list_any, take_while}
 use Rattle.std.specs.Str.{bytes_eq}
@@ -91,11 +91,17 @@ netgroup_stop text at = plus_at text at + 1 + length (netgroup_at text at)
 abbrev pub netgroup_end : List ℕ → ℕ → ℕ
 netgroup_end text at = if slice_index text at == 34 then netgroup_stop text at + 1 else netgroup_stop text at
 
--- the name ends: at a double quote, or neither at one nor at an escape
+-- the text ends at an offset, or a blank, a mark or a comment stands there
+abbrev pub ends_item : List ℕ → ℕ → Bool
+ends_item text at =
+    nat_le (length text) at || is_blank (slice_index text at) || is_mark_byte (slice_index text at) || (slice_index text at == 35)
+
+-- the name ends, and the item with it: at a double quote, behind which it ends, or as any item without quotes does
 abbrev pub ends_name : List ℕ → ℕ → Bool
 ends_name text at =
-    if slice_index text at == 34 then slice_index text (netgroup_stop text at) == 34
-    else not ((slice_index text (netgroup_stop text at) == 34) || (slice_index text (netgroup_stop text at) == 92))
+    if slice_index text at == 34
+    then (slice_index text (netgroup_stop text at) == 34) && ends_item text (netgroup_stop text at + 1)
+    else ends_item text (netgroup_stop text at)
 
 -- a netgroup that is known is spelled at an offset
 unfoldable pub spells_netgroup : List Triple → List ℕ → ℕ → Bool

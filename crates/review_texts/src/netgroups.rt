@@ -263,16 +263,26 @@ pub(crate) fn netgroup_end(text: &[u8], at: usize) -> usize
     }
 }
 
-// Whether the name of a netgroup at an offset ends as one may.
+// Whether a text ends at an offset, or a blank, a mark or a comment stands there.
+fn ends_item(text: &[u8], at: usize) -> bool
+    ensures { result ≡ spec.ends_item text.now at }
+{
+    text.len() <= at
+        || is_blank(peek(text, at))
+        || is_mark_byte(peek(text, at))
+        || peek(text, at) == b'#'
+}
+
+// Whether the name of a netgroup at an offset ends, and its item with it.
 fn ends_name(text: &[u8], at: usize) -> bool
     requires { at ≤ length text.now }
     ensures { result ≡ spec.ends_name text.now at }
 {
-    let next = peek(text, netgroup_stop(text, at));
+    let stop = netgroup_stop(text, at);
     if peek(text, at) == b'"' {
-        next == b'"'
+        peek(text, stop) == b'"' && ends_item(text, stop + 1)
     } else {
-        !(next == b'"' || next == b'\\')
+        ends_item(text, stop)
     }
 }
 
