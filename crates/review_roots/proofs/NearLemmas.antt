@@ -1,9 +1,10 @@
 -- Users that are one step from what is found, aim by aim, and their marks.
-use Rattle.std.proofs.Common.{◌≡◌, ◌<◌, ◌≤◌, ◌∙◌, ◌+◌, ◌⊎◌, ℕ, Bool, true, false, not, cond, List, ◌++◌, ap, arith, get_or, length}
+use Rattle.std.proofs.Common.{[], ◌∷◌}
+use Rattle.std.proofs.Common.{◌≡◌, ◌<◌, ◌≤◌, ◌∙◌, ◌+◌, ◌⊎◌, ◌&&◌, ◌||◌, ◌==◌, ℕ, Bool, true, false, not, cond, List, ◌++◌, ap, arith, get_or, length}
 use Rattle.std.proofs.Common.{Option, inl, inr, map, refl, set, subst, sym, take}
 use Rattle.std.specs.Prelude.{All, filter, nat_lt}
 use Rattle.std.specs.List.{Contains}
-use Rattle.std.proofs.lemmas.Bool.{cases_lt, lt-ltb, ltb-true, not-true}
+use Rattle.std.proofs.lemmas.Bool.{and_parts, cases_lt, eqb-true, lt-ltb, ltb-true, not-true}
 use Rattle.std.proofs.lemmas.List.{get_or-set_other, get_or-set_same, get_or_past, length-set, map-append, take_all}
 use Rattle.std.proofs.lemmas.List.Elements.{All-contains, All-contains_itself, All-filter, All-push, All-weaker, filter_passes}
 use Rattle.std.proofs.lemmas.List.Elements.{Contains-append_left, Contains-append_right}
@@ -15,6 +16,10 @@ use Rattle.review_roots.specs.declared.search.Aim.{Aim}
 use Rattle.review_roots.specs.declared.search.Found.{Found}
 use Rattle.review_roots.specs.declared.state.State.{State}
 use Rattle.review_roots.specs.Body.Found.{AreNear, AreNearTo, IsCandidate, any_sought, found_by, found_states, is_left, marked, reaches}
+use Rattle.review_roots.specs.declared.level.Level.TheVariants as level
+use Rattle.review_roots.specs.Body.Candidates.{is_heard}
+use Rattle.review_roots.specs.Body.Found.{asking_of, is_asking, is_counted, may_start}
+use Rattle.review_roots.specs.Body.May.{may_reach}
 use Rattle.review_roots.specs.Ranks.{is_at_least}
 use Rattle.review_roots.specs.Ways.{step_on}
 use Rattle.review_roots.proofs.ListSteps.{take-more}
@@ -187,3 +192,49 @@ near-all h target l starts found near left n all parted far =
     go c (inr inside) =
         inr (subst (All (λ f. is_at_least l (step_on h c.state f.state).level ≡ false)) (take_all n found all)
         (All-contains (λ c. All (λ f. is_at_least l (step_on h c.state f.state).level ≡ false) (take n found)) left c far inside))
+
+-- ---- Candidates on the way from a marked user
+
+-- a list that is filtered twice, where the first test passes all that the second one does
+pub filtered-within : {X : Type 0} (p q : X → Bool) → ((x : X) → p x ≡ true → q x ≡ true) → (xs : List X)
+    → filter p (filter q xs) ≡ filter p xs
+filtered-within {X} p q within [] = refl
+filtered-within {X} p q within (x ∷ xs) = go (filtered-within p q within xs) (p x) refl (q x) refl
+  where
+    go : filter p (filter q xs) ≡ filter p xs → (a : Bool) → p x ≡ a → (b : Bool) → q x ≡ b → filter p (cond (q x) (x ∷ filter q xs) (filter q xs)) ≡ filter p (x ∷ xs)
+    go rest a is true passes =
+        ap (λ b. filter p (cond b (x ∷ filter q xs) (filter q xs))) passes
+        ∙ ap (λ ys. cond (p x) (x ∷ ys) ys) rest
+    go rest true is false fails = absurd (let bad : true ≡ false = sym (within x is) ∙ fails in cc)
+    go rest false is false fails =
+        ap (λ b. filter p (cond b (x ∷ filter q xs) (filter q xs))) fails
+        ∙ rest
+        ∙ sym (ap (λ b. cond b (x ∷ filter p xs) (filter p xs)) is)
+
+-- all that are left for a search by the own steps of a marked user
+pub asking-left :
+    (h : HostSteps) (target user : ℕ) (near : List Bool) (cs : List Candidate) → get_or near user true ≡ true →
+    cs ≡ asking_of h target near →
+    filter (is_left h (record { target = target; counted = counted.Own user }) []) cs
+    ≡ filter (is_left h (record { target = target; counted = counted.Own user }) []) h.candidates.now
+asking-left h target user near cs marks is =
+    ap (filter left) is ∙ filtered-within left (is_asking h target near) asks h.candidates.now
+  where
+    left : Candidate → Bool
+    left = is_left h (record { target = target; counted = counted.Own user }) []
+
+    one : (g o r n : Bool) → (o ≡ true → n ≡ true) → (g || (o || r)) ≡ true → (n || (g || r)) ≡ true
+    one g o r true marks e = refl
+    one true o r false marks e = refl
+    one false true r false marks e = absurd (let bad : false ≡ true = marks refl in cc)
+    one false false true false marks e = refl
+    one false false false false marks e = e
+
+    asks : (c : Candidate) → left c ≡ true → is_asking h target near c ≡ true
+    asks c e =
+        let heard = and_parts (is_heard h.on.items target c) (is_counted h (counted.Own user) c)
+        (and_parts (may_start [] c.state) (is_heard h.on.items target c && is_counted h (counted.Own user) c) e).1 in
+        ap (λ b. b && (get_or near c.state.user true || is_counted h counted.Unasked c)) heard.0
+        ∙ one ((length h.groups.now == 0) && is_at_least level.AllBut h.least) (c.state.user == user)
+        (may_reach h.on.items h.blocks.now h.least counted.Unasked c.listed.items) (get_or near c.state.user true)
+        (λ same. ap (λ u. get_or near u true) (eqb-true c.state.user user same) ∙ marks) heard.1

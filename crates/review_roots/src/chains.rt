@@ -9,18 +9,20 @@ ghost use Rattle.review_roots.specs.declared.level.Level.TheVariants as level;
 ghost use Rattle.review_roots.specs.declared.search.Found.{Found as TheFound};
 
 use crate::Level;
+use crate::candidate::Candidate;
 use crate::given::Counted;
 use crate::host::HostSteps;
-use crate::near::near_users;
-use crate::search::{Found, Reach, Sought, found_of, has_step, spread_of};
+use crate::near::{asking, near_users};
+use crate::search::{Found, Reach, Sought, found_at, found_of, has_step, spread_of};
 use crate::starts::starts_of;
 use std::alloc::{AllocError, Global};
 
 /// The states from which chains of a level lead to a target, each with a shortest one: by any steps, by steps that may go without a
 /// password, and by steps that ask for none; where each user is among them; and for each user whether a step of one of its states, of
-/// any kind, leads to one from which a chain of steps leads that may go without a password.
+/// any kind, leads to one from which a chain of steps leads that may go without a password; and what a search by steps of one such user
+/// begins with.
 #[derive(Drop)]
-pub(crate) struct Chains {
+pub(crate) struct Chains<'r> {
     pub(crate) any: Vec<Found>,
     pub(crate) any_starts: Vec<Option<usize>>,
     pub(crate) unasked: Vec<Found>,
@@ -28,24 +30,26 @@ pub(crate) struct Chains {
     pub(crate) free: Vec<Found>,
     pub(crate) free_starts: Vec<Option<usize>>,
     pub(crate) near: Vec<bool>,
+    pub(crate) goals: Vec<Found>,
+    pub(crate) asking: Vec<&'r Candidate>,
 }
 
 /// The chains of each level. There are none of a level by which no further state leads to the target.
 #[derive(Drop)]
-pub(crate) struct Levels {
-    pub(crate) all: Chains,
-    pub(crate) all_but: Option<Chains>,
-    pub(crate) listed: Option<Chains>,
+pub(crate) struct Levels<'r> {
+    pub(crate) all: Chains<'r>,
+    pub(crate) all_but: Option<Chains<'r>>,
+    pub(crate) listed: Option<Chains<'r>>,
 }
 
 // Returns the chains of a level to the target, where those of any steps are found.
-fn chains_at(
+fn chains_at<'r>(
     alloc: Global,
-    steps: &HostSteps<'_, '_>,
+    steps: &HostSteps<'r, '_>,
     target: usize,
     level: Level,
     any: Vec<Found>,
-) -> Result<Chains, AllocError>
+) -> Result<Chains<'r>, AllocError>
     requires level { IsTrue (is_at_least steps.now.least level) }
     requires any { AreFound (any_steps steps.now target) steps.now.states.now level any.items }
     requires given { AreGiven steps.now any.items }
@@ -77,6 +81,8 @@ fn chains_at(
     let unasked_starts = starts_of(alloc, users, &unasked)?;
     let free_starts = starts_of(alloc, users, &free)?;
     let near = near_users(alloc, steps, target, level, &any_starts, &unasked)?;
+    let goals = found_at(alloc, steps, target)?;
+    let asking = asking(alloc, steps, target, &near)?;
     Ok(Chains {
         any,
         any_starts,
@@ -85,17 +91,19 @@ fn chains_at(
         free,
         free_starts,
         near,
+        goals,
+        asking,
     })
 }
 
 // Returns the same, if there are chains of the level.
-fn chains_if(
+fn chains_if<'r>(
     alloc: Global,
-    steps: &HostSteps<'_, '_>,
+    steps: &HostSteps<'r, '_>,
     target: usize,
     level: Level,
     spread: Option<Reach<'_>>,
-) -> Result<Option<Chains>, AllocError>
+) -> Result<Option<Chains<'r>>, AllocError>
     requires { IsSomeSpread steps.now target level spread }
     ensures lower { (above : List TheFound) → IsLowerSpread steps.now target level above spread.entry
         → IfOk result (λ chains. IsLower steps.now target level above chains) }
@@ -158,11 +166,11 @@ fn lowest<'r>(
 }
 
 /// Returns the chains of each level to the target. Returns `AllocError` if allocation fails.
-pub(crate) fn levels_of(
+pub(crate) fn levels_of<'r>(
     alloc: Global,
-    steps: &HostSteps<'_, '_>,
+    steps: &HostSteps<'r, '_>,
     target: usize,
-) -> Result<Levels, AllocError>
+) -> Result<Levels<'r>, AllocError>
     ensures { IfOk result (λ levels. AreLevels steps.now target levels) }
 {
     let sought = Sought {

@@ -1,10 +1,11 @@
 //! Which users are one step, of any kind, from a chain whose steps may all go without a password: from no other user does a chain lead
 //! that asks for nobody else's.
-ghost use Rattle.std.specs.Prelude.{◌≡◌, All, IfOk, IsTrue, get_or, length, true};
+ghost use Rattle.std.specs.Prelude.{◌≡◌, All, IfOk, IsTrue, get_or, length, map, true};
 ghost use Rattle.review_roots.specs.Ranks.{is_at_least};
-ghost use Rattle.review_roots.specs.Body.Found.{AreNear, AreNearTo, marked};
+ghost use Rattle.review_roots.specs.Body.Found.{AreNear, AreNearTo, asking_of, is_asking, marked};
 
 use crate::Level;
+use crate::candidate::Candidate;
 use crate::given::Counted;
 use crate::host::HostSteps;
 use crate::search::{Aim, Found, Sought, draw_to, heard};
@@ -105,4 +106,39 @@ pub(crate) fn is_near(marks: &[bool], user: usize) -> bool
         Some(is) => *is,
         None => true,
     }
+}
+
+// Whether the candidate may be on the way from a marked user: a block on the host that raises lists it, it is not the target, and it is a
+// marked user's, or a step of it may go without a password.
+fn is_asking(
+    steps: &HostSteps<'_, '_>,
+    target: usize,
+    marks: &[bool],
+    candidate: &Candidate,
+) -> bool
+    ensures { result ≡ is_asking steps.now target marks.now candidate.now }
+{
+    steps.is_heard(target, candidate)
+        && (is_near(marks, candidate.state.user)
+            || (steps.groups.len() == 0 && steps.least.is_at_least(Level::AllBut))
+            || steps.may_count(candidate, Counted::Unasked))
+}
+
+/// Returns the candidates that may be on the way from a marked user. Returns `AllocError` if allocation fails.
+pub(crate) fn asking<'r>(
+    alloc: Global,
+    steps: &HostSteps<'r, '_>,
+    target: usize,
+    marks: &[bool],
+) -> Result<Vec<&'r Candidate>, AllocError>
+    ensures { IfOk result (λ asking. map (λ c. c.now) asking.items
+        ≡ asking_of steps.now target marks.now) }
+{
+    let mut asking = Vec::new(alloc);
+    for candidate in steps.candidates {
+        if is_asking(steps, target, marks, candidate) {
+            asking.push(candidate)?;
+        }
+    }
+    Ok(asking)
 }

@@ -1,5 +1,5 @@
 //! Who can become a target on a host.
-ghost use Rattle.std.specs.Prelude.{◌≡◌, ◌<◌, IfOk, IsTrue, MatchOption, Some, None, length, true};
+ghost use Rattle.std.specs.Prelude.{◌≡◌, ◌<◌, IfOk, MatchOption, Some, None, get_or, length, true};
 ghost use Rattle.review_roots.specs.Chains.{HasNoPath};
 ghost use Rattle.review_roots.specs.Ranks.{is_at_least};
 ghost use Rattle.review_roots.specs.Sought.{any_steps, free_steps, unasked_steps};
@@ -15,7 +15,7 @@ use crate::chains::{Chains, Levels, levels_of};
 use crate::given::Counted;
 use crate::host::HostSteps;
 use crate::near::is_near;
-use crate::search::{Found, Sought, found_of};
+use crate::search::{Found, Sought, found_among};
 use crate::starts::start_at;
 use crate::state::State;
 use crate::way::{Way, way_of};
@@ -65,10 +65,12 @@ fn own_way(
     steps: &HostSteps<'_, '_>,
     target: usize,
     level: Level,
+    chains: &Chains<'_>,
     user: usize,
     way: Way,
 ) -> Result<Way, AllocError>
-    requires enough { IsTrue (is_at_least steps.now.least level) }
+    requires lead { ChainsLead steps.now target level chains.now }
+    requires near { get_or chains.now.near.items user true ≡ true }
     requires known { user < length steps.now.directory.now.people }
     requires best { IsBest steps.now target level user }
     requires free { HasNoPath (free_steps steps.now target) level (state_with None user) }
@@ -82,7 +84,7 @@ fn own_way(
         target,
         counted: Counted::Own(user),
     };
-    let own = found_of(alloc, steps, sought, level, &[])?;
+    let own = found_among(alloc, steps, sought, level, &chains.goals, &chains.asking)?;
     match start_index(&own, user) {
         Some(index) => way_of(alloc, steps, level, &own, index),
         None => Ok(way),
@@ -96,7 +98,7 @@ fn asking_way(
     steps: &HostSteps<'_, '_>,
     target: usize,
     level: Level,
-    chains: &Chains,
+    chains: &Chains<'_>,
     user: usize,
     index: usize,
 ) -> Result<Way, AllocError>
@@ -117,7 +119,7 @@ fn asking_way(
     if !is_near(&chains.near, user) {
         return Ok(way);
     }
-    own_way(alloc, steps, target, level, user, way)
+    own_way(alloc, steps, target, level, chains, user, way)
 }
 
 // Returns the chain of a found state that is the user without an added group, where no chain of the level asks for no password: one
@@ -127,7 +129,7 @@ fn asked_way(
     steps: &HostSteps<'_, '_>,
     target: usize,
     level: Level,
-    chains: &Chains,
+    chains: &Chains<'_>,
     user: usize,
     index: usize,
 ) -> Result<Way, AllocError>
@@ -152,7 +154,7 @@ fn best_way(
     steps: &HostSteps<'_, '_>,
     target: usize,
     level: Level,
-    chains: &Chains,
+    chains: &Chains<'_>,
     user: usize,
     index: usize,
 ) -> Result<Way, AllocError>
@@ -176,7 +178,7 @@ fn way_at(
     steps: &HostSteps<'_, '_>,
     target: usize,
     level: Level,
-    chains: &Chains,
+    chains: &Chains<'_>,
     user: usize,
 ) -> Result<Option<Way>, AllocError>
     requires lead { ChainsLead steps.now target level chains.now }
@@ -198,7 +200,7 @@ fn way_below(
     steps: &HostSteps<'_, '_>,
     target: usize,
     level: Level,
-    chains: &Option<Chains>,
+    chains: &Option<Chains<'_>>,
     user: usize,
 ) -> Result<Option<Way>, AllocError>
     requires lead { (c : TheChains) → chains.now ≡ Some c → ChainsLead steps.now target level c }
@@ -222,7 +224,7 @@ fn way_lower(
     alloc: Global,
     steps: &HostSteps<'_, '_>,
     target: usize,
-    levels: &Levels,
+    levels: &Levels<'_>,
     user: usize,
 ) -> Result<Option<Way>, AllocError>
     requires levels { AreLevels steps.now target levels.now }
@@ -244,7 +246,7 @@ fn way_from(
     alloc: Global,
     steps: &HostSteps<'_, '_>,
     target: usize,
-    levels: &Levels,
+    levels: &Levels<'_>,
     user: usize,
 ) -> Result<Option<Way>, AllocError>
     requires levels { AreLevels steps.now target levels.now }
@@ -265,7 +267,7 @@ fn root_of(
     alloc: Global,
     steps: &HostSteps<'_, '_>,
     target: usize,
-    levels: &Levels,
+    levels: &Levels<'_>,
     user: usize,
 ) -> Result<Option<Root>, AllocError>
     requires levels { AreLevels steps.now target levels.now }

@@ -4,7 +4,7 @@ ghost use Rattle.std.specs.Prelude.{None, Some, false};
 ghost use Rattle.review_roots.specs.Sought.{steps_of};
 ghost use Rattle.review_roots.specs.Body.Candidates.{states_of};
 ghost use Rattle.review_roots.specs.Body.Found.{AreDeep, AreFound, AreGiven, HaveNoChain, IsCandidate, IsDrawn, IsSearch};
-ghost use Rattle.review_roots.specs.Body.Found.{found_by, found_there, is_left, kept_steps, may_start, reaches};
+ghost use Rattle.review_roots.specs.Body.Found.{found_by, found_there, goals_of, is_left, kept_steps, may_start, reaches};
 ghost use Rattle.review_roots.specs.Body.Towards.{IsToward};
 ghost use Rattle.review_roots.specs.Ranks.{is_at_least};
 ghost use Rattle.review_roots.specs.Ways.{step_on};
@@ -194,8 +194,8 @@ fn spread<'c>(
     Ok(left)
 }
 
-// Returns the kept states at the target.
-fn found_at(
+/// Returns the kept states at the target. Returns `AllocError` if allocation fails.
+pub(crate) fn found_at(
     alloc: Global,
     steps: &HostSteps<'_, '_>,
     target: usize,
@@ -314,6 +314,61 @@ pub(crate) fn found_of(
     ensures given { IfOk result (λ found. AreGiven steps.now found.items) }
 {
     let Reach { found, left: _ } = spread_of(alloc, steps, sought, level, starts)?;
+    Ok(found)
+}
+
+// Returns copies of found states.
+fn copied(alloc: Global, found: &[Found]) -> Result<Vec<Found>, AllocError>
+    ensures { IfOk result (λ copies. copies.items ≡ found.now) }
+{
+    let mut copies = Vec::new(alloc);
+    for state in found {
+        copies.push(*state)?;
+    }
+    Ok(copies)
+}
+
+// Returns those of the candidates that are left.
+fn heard_of<'r>(
+    alloc: Global,
+    steps: &HostSteps<'_, '_>,
+    sought: Sought,
+    candidates: &[&'r Candidate],
+) -> Result<Vec<&'r Candidate>, AllocError>
+    ensures { IfOk result (λ left. map (λ c. c.now) left.items
+        ≡ filter (is_left steps.now sought []) (map (λ c. c.now) candidates.now)) }
+{
+    let mut left = Vec::new(alloc);
+    for candidate in candidates {
+        if is_left(steps, sought, &[], candidate) {
+            left.push(*candidate)?;
+        }
+    }
+    Ok(left)
+}
+
+/// Returns the same as `found_of` without starts, from the states at the target and from candidates among which are all that are left.
+///
+/// Returns `AllocError` if allocation fails.
+pub(crate) fn found_among(
+    alloc: Global,
+    steps: &HostSteps<'_, '_>,
+    sought: Sought,
+    level: Level,
+    goals: &[Found],
+    candidates: &[&Candidate],
+) -> Result<Vec<Found>, AllocError>
+    requires level { IsTrue (is_at_least steps.now.least level) }
+    requires goals { goals.now ≡ goals_of steps.now sought.target }
+    requires candidates { filter (is_left steps.now sought []) (map (λ c. c.now) candidates.now)
+        ≡ filter (is_left steps.now sought []) steps.now.candidates.now }
+    ensures found { IfOk result (λ found. AreFound (steps_of steps.now sought) steps.now.states.now
+        level found.items) }
+    ensures given { IfOk result (λ found. AreGiven steps.now found.items) }
+{
+    let mut found = copied(alloc, goals)?;
+    let left = heard_of(alloc, steps, sought, candidates)?;
+    spread(alloc, steps, sought, level, left, &mut found)?;
     Ok(found)
 }
 

@@ -166,6 +166,22 @@ pub record AreChains (h : HostSteps) (c : Chains) : Type 0 where
   pub free_starts : AreStarts c.free.items c.free_starts.items
   pub free_users : length c.free_starts.items ≡ length h.directory.now.people
 
+-- a state at the goal
+abbrev pub found_there : State → Found
+found_there s = record { state = s; steps = 0; next = None; given = nothing }
+
+-- the states at the target, and which candidates may be on the way from a marked user by its own steps and by steps of others that
+-- may go without a password
+abbrev pub goals_of : HostSteps → ℕ → List Found
+goals_of h target = map found_there (filter (λ s. s.user == target) h.states.now)
+
+abbrev pub is_asking : HostSteps → ℕ → List Bool → Candidate → Bool
+is_asking h target near c =
+    is_heard h.on.items target c && (get_or near c.state.user true || is_counted h counted.Unasked c)
+
+abbrev pub asking_of : HostSteps → ℕ → List Bool → List Candidate
+asking_of h target near = filter (is_asking h target near) h.candidates.now
+
 -- the chains of a level to a target, by any steps, by steps that may go without a password, and by steps that ask for none; and the
 -- users from which a step of any kind leads to where one begins whose steps may go without
 pub record ChainsLead (h : HostSteps) (target : ℕ) (l : Level) (c : Chains) : Type 0 where
@@ -175,6 +191,8 @@ pub record ChainsLead (h : HostSteps) (target : ℕ) (l : Level) (c : Chains) : 
   pub free : AreFound (free_steps h target) h.states.now l c.free.items
   pub near : AreNear h target l c.any_starts.items c.unasked.items c.near.items
   pub are : AreChains h c
+  pub goals : c.goals.items ≡ goals_of h target
+  pub asking : map (λ c. c.now) c.asking.items ≡ asking_of h target c.near.items
 
 -- no further state has a chain of a lower level, if one has to be at least of the least; or these are the chains of it
 abbrev pub IsLower : HostSteps → ℕ → Level → List Found → Option Chains → Type 0
@@ -244,10 +262,6 @@ found_by h aim c = record { state = c.state; steps = aim.steps; next = Some aim.
 abbrev pub IsMute : Steps State → Level → State → Type 0
 IsMute g least s =
     (g.goal s ≡ false) × ((t : State) (l : Level) → is_at_least least l ≡ true → is_at_least l (g.level s t) ≡ false)
-
--- a state at the goal
-abbrev pub found_there : State → Found
-found_there s = record { state = s; steps = 0; next = None; given = nothing }
 
 -- what the search begins with, among the kept states: those at the goal, and those that are left
 pub record IsStartOf (h : HostSteps) (q : Sought) (least : Level) (found : List Found) (left : List Candidate) : Type 0 where

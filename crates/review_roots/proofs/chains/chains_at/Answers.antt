@@ -1,5 +1,6 @@
+use Rattle.std.proofs.Common.{◌≡◌, Bool, List, map}
 use Rattle.std.proofs.Common.{◌∙◌, ap, length, subst, sym}
-use Rattle.review_roots.specs.Body.Found.{AreNear, AreStarts, HaveNoChain}
+use Rattle.review_roots.specs.Body.Found.{AreNear, AreStarts, HaveNoChain, asking_of}
 use Rattle.review_roots.specs.Sought.{any_steps, free_steps, unasked_steps}
 use Rattle.review_roots.proofs.PathLemmas.{starts-chainless}
 use Rattle.review_roots.proofs.SearchLemmas.{point-back}
@@ -51,4 +52,7 @@ returns-clause-lead c =
             c.in_ok-free_starts.ensures.starts;
         free_users = c.in_ok-free_starts.ensures.known ∙ people;
       };
+      goals = c.in_ok-goals.ensures;
+      asking = subst (λ (marks : List Bool). map (λ k. k.now) c.in_ok-asking.asking.items ≡ asking_of h c.args.target marks)
+          c.deref-8.ensures.value c.in_ok-asking.ensures;
     }

@@ -1,10 +1,12 @@
-use Rattle.std.proofs.Common.{List, Some, None, inr, subst}
+use Rattle.std.proofs.Common.{◌∙◌, Bor, List, Some, None, ap, inr, map, subst}
+use Rattle.review_roots.specs.declared.candidate.Candidate.{Candidate}
 use Rattle.std.proofs.lemmas.Result.{IfOk-weaker}
 use Rattle.review_roots.specs.declared.given.Counted.TheVariants as counted
 use Rattle.review_roots.specs.declared.search.Found.{Found}
 use Rattle.review_roots.specs.declared.search.Sought.{Sought}
 use Rattle.review_roots.specs.Body.Found.{IsFoundAt}
 use Rattle.review_roots.proofs.FreeLemmas.{chosen, none-of, way-any, way-own}
+use Rattle.review_roots.proofs.NearLemmas.{asking-left}
 use Rattle.review_roots.proofs.roots.own_way.Goals as goal
 
 pub returns-in-Some : goal.returns-in-Some
@@ -12,11 +14,11 @@ returns-in-Some c =
     let h = c.args.steps.now in
     let user = c.args.user in
     let q : Sought = record { target = c.args.target; counted = counted.Own user } in
-    let at = subst (λ (xs : List Found). IsFoundAt xs user (Some c.in-Some.index)) c.deref.ensures.value c.in-Some.ensures in
+    let at = subst (λ (xs : List Found). IsFoundAt xs user (Some c.in-Some.index)) c.deref-3.ensures.value c.in-Some.ensures in
     IfOk-weaker c.way_of.result _ _
     (λ w is.
-    way-own h c.args.target c.args.level c.requires.enough user c.requires.known c.requires.best w is.0 c.requires.free c.requires.unasked
-    (chosen h c.args.target c.args.level c.requires.enough user c.requires.known q c.deref-in-Some.result.now c.in_ok-own.own.items
+    way-own h c.args.target c.args.level c.requires.lead.level user c.requires.known c.requires.best w is.0 c.requires.free c.requires.unasked
+    (chosen h c.args.target c.args.level c.requires.lead.level user c.requires.known q c.deref-in-Some.result.now c.in_ok-own.own.items
     c.in-Some.index w is.1 c.deref-in-Some.ensures.value c.in_ok-own.ensures.found at))
     c.way_of.ensures
 
@@ -25,8 +27,17 @@ returns-in-None c =
     let h = c.args.steps.now in
     let user = c.args.user in
     let q : Sought = record { target = c.args.target; counted = counted.Own user } in
-    let at = subst (λ (xs : List Found). IsFoundAt xs user None) c.deref.ensures.value c.in-None.ensures in
-    way-any h c.args.target c.args.level c.requires.enough user c.requires.known c.requires.best c.args.way c.requires.level c.requires.free
+    let at = subst (λ (xs : List Found). IsFoundAt xs user None) c.deref-3.ensures.value c.in-None.ensures in
+    way-any h c.args.target c.args.level c.requires.lead.level user c.requires.known c.requires.best c.args.way c.requires.level c.requires.free
     c.requires.unasked
-    (inr (none-of h c.args.target c.args.level c.requires.enough user c.requires.known q c.in_ok-own.own.items c.in_ok-own.ensures.found at))
+    (inr (none-of h c.args.target c.args.level c.requires.lead.level user c.requires.known q c.in_ok-own.own.items c.in_ok-own.ensures.found at))
     c.requires.way
+
+pub found_among-requires-clause-goals : goal.found_among-requires-clause-goals
+found_among-requires-clause-goals c = c.deref.ensures.value ∙ c.requires.lead.goals
+
+pub found_among-requires-clause-candidates : goal.found_among-requires-clause-candidates
+found_among-requires-clause-candidates c =
+    let h = c.args.steps.now in
+    asking-left h c.args.target c.args.user c.args.chains.now.near.items (map (λ k. k.now) c.deref-2.result.now) c.requires.near
+    (ap (λ (xs : List (Bor Candidate)). map (λ k. k.now) xs) c.deref-2.ensures.value ∙ c.requires.lead.asking)
