@@ -13,7 +13,7 @@ from collections.abc import Iterator
 import listing
 from drawn import Drawn
 from support import REVIEW, needs_review
-from test_roots import Draw, Host, State
+from test_roots import Draw, Host
 from kulavemia.grants import Grant, Grants
 from kulavemia.roots import Roots
 
@@ -60,11 +60,11 @@ class Marks(Drawn):
         asked = {(row[0], row[1]): row[4] for row in rows}
         answers = roots.answers()
         for at, host in enumerate(HOSTS):
-            unasked = Host(policy, host).reaching("root", 1, 1)
+            drawn = Host(policy, host)
             for user, row in zip(USERS[1:], roots.rows[1:]):
                 mark = answers[row[at]].mark
                 says = mark.endswith("?") or mark == "A!"
-                if State(user) in unasked:
+                if drawn.distance(user, 1, 1) is not None:
                     self.assertTrue(says, f"{user} on {host}: {mark}")
                     yield "a lesser chain" if asked[user, host] not in ("none", "?") else "as the column"
                 elif mark != "·":
