@@ -1,8 +1,8 @@
 -- The rows for a target decide, and rows that agree say the same.
-use Rattle.std.proofs.Common.{◌≡◌, ℕ, Bool, true, false, not, cond, ◌&&◌, List, [], ◌∷◌, ◌++◌, map, Option, Some, None, refl, sym, ◌∙◌, ap}
+use Rattle.std.proofs.Common.{◌≡◌, ℕ, Bool, true, false, not, cond, ◌&&◌, ◌||◌, ◌⊎◌, inl, inr, List, [], ◌∷◌, ◌++◌, map, Option, Some, None, refl, sym, ◌∙◌, ap}
 use Rattle.std.specs.Prelude.{filter, option_map}
 use Rattle.std.specs.Option.{option_or}
-use Rattle.std.proofs.lemmas.Bool.{and_from, and_parts}
+use Rattle.std.proofs.lemmas.Bool.{and_from, and_parts, or_cases}
 use Rattle.sudo_text.specs.declared.line.Place.{Place}
 use Rattle.sudo_grammar.specs.declared.kind.Atom.{Atom}
 use Rattle.sudo_grammar.specs.declared.policy.Policy.{Policy}
@@ -27,14 +27,14 @@ use Rattle.review_compare.specs.Agreement.{AreSound, answer_of}
 use Rattle.review_compare.specs.Compared.{said}
 use Rattle.review_compare.specs.Lines.{Choice, Line, Lined, all_met, at_line, fits_where, is_met, is_note_atom, is_unnoted, noted, nowhere}
 use Rattle.review_compare.specs.Cells.{AgreeingRowsSaySame, Decider, RequestsAnsweredSame, RowsDecide, Wide, answered_by}
-use Rattle.review_compare.specs.Cells.{answered_if_any, covers_always}
+use Rattle.review_compare.specs.Cells.{answered_if_any, covers_where, same_lined}
 use Rattle.review_compare.specs.Cells.{deciders, line_after, lined, lined_of, policy_rows, rows_agree, ruling_by, simple_tests}
 use Rattle.review_compare.specs.Cells.{verdict_among, verdict_where, wide_of, wide_stands, with_before}
-use Rattle.review_compare.specs.Simply.{covers_simply}
+use Rattle.review_compare.specs.Simply.{covers_simply, same_command, same_commands}
 use Rattle.review_compare.specs.Witnesses.{RowsSaySame}
 use Rattle.review_compare.proofs.AgreementLemmas.{agreement}
 use Rattle.review_compare.proofs.ComparedLemmas.{answer_same}
-use Rattle.review_compare.proofs.SimplyLemmas.{covers_simply_sound, disjoint_simply_sound}
+use Rattle.review_compare.proofs.SimplyLemmas.{command-same, commands-same, covers_simply_sound, disjoint_simply_sound}
 
 -- ---- The rows decide
 
@@ -156,6 +156,14 @@ pub rulings-say-same : (ds es : List Decider) → map ruling_by ds ≡ map rulin
 rulings-say-same ds es e met c x =
     said-among met ds c x ∙ ap (answer_of (fits_where met c x)) e ∙ sym (said-among met es c x)
 
+-- commands that are written alike, behind others that are, are the same
+lined-same : (k a : Lined) → same_lined k a ≡ true → k ≡ a
+lined-same k a e =
+    let both = and_parts (same_command k.atom a.atom) (same_commands k.before a.before) e in
+    ap (λ (atom : Atom). let l : Lined = record { before = k.before; atom = atom } in l) (command-same k.atom a.atom both.0)
+    ∙ ap (λ (before : List Atom). let l : Lined = record { before = before; atom = a.atom } in l)
+    (commands-same k.before a.before both.1)
+
 -- the tests are sound, whatever is met
 pub simple-sound : (met : Choice) (c x : List ℕ) → AreSound simple_tests (fits_where met c x)
 simple-sound met c x = record {
@@ -166,12 +174,18 @@ simple-sound met c x = record {
   same = answer_same;
 }
   where
-    covers : (k a : Lined) → covers_always k a.atom ≡ true → fits_where met c x a ≡ true → fits_where met c x k ≡ true
+    -- what applies to the second applies to the first, where it fits: nothing is noted before it, or it is the second
+    by : (k a : Lined) → command_fits k.atom c x ≡ true → fits_where met c x a ≡ true →
+        (is_unnoted k.before ≡ true) ⊎ (same_lined k a ≡ true) → fits_where met c x k ≡ true
+    by k a fits h (inl none) =
+        and_from (command_fits k.atom c x) (is_met met k) fits (ap (λ b. cond b true (met k.before k.atom)) none)
+    by k a fits h (inr same) = ap (fits_where met c x) (lined-same k a same) ∙ h
+
+    covers : (k a : Lined) → covers_where k a ≡ true → fits_where met c x a ≡ true → fits_where met c x k ≡ true
     covers k a cover h =
-        let both = and_parts (is_unnoted k.before) (covers_simply k.atom a.atom) cover in
-        let fits = and_parts (command_fits a.atom c x) (is_met met a) h in
-        and_from (command_fits k.atom c x) (is_met met k) (covers_simply_sound k.atom a.atom c x both.1 fits.0)
-        (ap (λ b. cond b true (met k.before k.atom)) both.0)
+        let both = and_parts (covers_simply k.atom a.atom) (is_unnoted k.before || same_lined k a) cover in
+        let fits = (and_parts (command_fits a.atom c x) (is_met met a) h).0 in
+        by k a (covers_simply_sound k.atom a.atom c x both.0 fits) h (or_cases (is_unnoted k.before) (same_lined k a) both.1)
 
 pub agreeing-among : (ds es : List Decider) → rows_agree ds es ≡ true → RowsSaySame ds es
 agreeing-among ds es e met c x =

@@ -4,11 +4,10 @@ use Rattle.std.proofs.Common.{Some, None, refl, sym, ◌∙◌, ap, arith}
 use Rattle.std.specs.List.{list_any, list_all}
 use Rattle.std.proofs.Math.Seq.{drop-cons}
 use Rattle.std.proofs.lemmas.List.Folds.{list_any-append}
-use Rattle.sudo_grammar.specs.declared.kind.Atom.{Atom}
 use Rattle.sudo_match.specs.declared.request.Tags.{Tags}
 use Rattle.review_compare.specs.Agreement.{Way, answer_alike, is_impossible, ways, ways_by_one}
 use Rattle.review_compare.specs.Compared.{same_answer}
-use Rattle.review_compare.specs.Cells.{Decider, covers_always, ruling_by, simple_tests, rows_agree}
+use Rattle.review_compare.specs.Cells.{Decider, covers_where, lined_of, ruling_by, simple_tests, rows_agree}
 use Rattle.review_compare.specs.Lines.{Lined}
 use Rattle.review_compare.specs.Simply.{disjoint_simply}
 use Rattle.review_compare.specs.Body.Shown.{is_covered_by, is_covered_by_either, pair_agrees, none_agrees, each_agrees, one_agrees}
@@ -27,12 +26,12 @@ or-false : (b : Bool) → (b || false) ≡ b
 or-false true = refl
 or-false false = refl
 
-covered : (ds es : List Decider) (a : Atom) →
-    list_any (λ k. covers_always k.atom a) (map ruling_by ds ++ map ruling_by es) ≡ is_covered_by_either ds es a
+covered : (ds es : List Decider) (a : Lined) →
+    list_any (λ k. covers_where k.atom a) (map ruling_by ds ++ map ruling_by es) ≡ is_covered_by_either ds es a
 covered ds es a =
-    list_any-append (λ k. covers_always k.atom a) (map ruling_by ds) (map ruling_by es)
-    ∙ ap (λ b. b || list_any (λ k. covers_always k.atom a) (map ruling_by es)) (list_any-map (λ k. covers_always k.atom a) ruling_by ds)
-    ∙ ap (λ b. is_covered_by ds a || b) (list_any-map (λ k. covers_always k.atom a) ruling_by es)
+    list_any-append (λ k. covers_where k.atom a) (map ruling_by ds) (map ruling_by es)
+    ∙ ap (λ b. b || list_any (λ k. covers_where k.atom a) (map ruling_by es)) (list_any-map (λ k. covers_where k.atom a) ruling_by ds)
+    ∙ ap (λ b. is_covered_by ds a || b) (list_any-map (λ k. covers_where k.atom a) ruling_by es)
 
 -- the ways of the others beside none and beside one
 abbrev none_test : List Decider → Way Lined (Option Tags) → Bool
@@ -47,26 +46,26 @@ none-ways : (ds es : List Decider) → list_all (none_test ds) (ways_by_one (map
 none-ways ds [] = refl
 none-ways ds (e ∷ es) =
     ap (λ b. b && list_all (none_test ds) (ways_by_one (map ruling_by es)))
-    (or-false (list_any (λ k. covers_always k.atom e.atom) (map ruling_by ds ++ map ruling_by es)) ∙ covered ds es e.atom)
-    ∙ ap (λ b. is_covered_by_either ds es e.atom && b) (none-ways ds es)
+    (or-false (list_any (λ k. covers_where k.atom (lined_of e)) (map ruling_by ds ++ map ruling_by es)) ∙ covered ds es (lined_of e))
+    ∙ ap (λ b. is_covered_by_either ds es (lined_of e) && b) (none-ways ds es)
 
 one-ways : (d : Decider) (later es : List Decider) → list_all (one_test d later) (ways_by_one (map ruling_by es)) ≡ each_agrees d later es
 one-ways d later [] = refl
 one-ways d later (e ∷ es) =
     ap (λ b. (same_answer d.answer e.answer
-    || ((b || list_any (λ k. covers_always k.atom e.atom) (map ruling_by later ++ map ruling_by es)) || disjoint_simply d.atom e.atom))
-    && list_all (one_test d later) (ways_by_one (map ruling_by es))) (covered later es d.atom)
+    || ((b || list_any (λ k. covers_where k.atom (lined_of e)) (map ruling_by later ++ map ruling_by es)) || disjoint_simply d.atom e.atom))
+    && list_all (one_test d later) (ways_by_one (map ruling_by es))) (covered later es (lined_of d))
     ∙ ap (λ b. (same_answer d.answer e.answer
-    || ((is_covered_by_either later es d.atom || b) || disjoint_simply d.atom e.atom))
-    && list_all (one_test d later) (ways_by_one (map ruling_by es))) (covered later es e.atom)
+    || ((is_covered_by_either later es (lined_of d) || b) || disjoint_simply d.atom e.atom))
+    && list_all (one_test d later) (ways_by_one (map ruling_by es))) (covered later es (lined_of e))
     ∙ ap (λ b. pair_agrees d later e es && b) (one-ways d later es)
 
 whole-way : (d : Decider) (later es : List Decider) → list_all (one_test d later) (ways (map ruling_by es)) ≡ one_agrees d later es
 whole-way d later es =
     ap (λ b. b && list_all (one_test d later) (ways_by_one (map ruling_by es)))
-    (or-false (list_any (λ k. covers_always k.atom d.atom) (map ruling_by later ++ map ruling_by es) || false)
-    ∙ or-false (list_any (λ k. covers_always k.atom d.atom) (map ruling_by later ++ map ruling_by es)) ∙ covered later es d.atom)
-    ∙ ap (λ b. is_covered_by_either later es d.atom && b) (one-ways d later es)
+    (or-false (list_any (λ k. covers_where k.atom (lined_of d)) (map ruling_by later ++ map ruling_by es) || false)
+    ∙ or-false (list_any (λ k. covers_where k.atom (lined_of d)) (map ruling_by later ++ map ruling_by es)) ∙ covered later es (lined_of d))
+    ∙ ap (λ b. is_covered_by_either later es (lined_of d) && b) (one-ways d later es)
 
 all-ways : (ds es : List Decider) →
     list_all (λ v. list_all (λ w. answer_alike simple_tests v.by w.by || is_impossible simple_tests v w) (ways (map ruling_by es)))

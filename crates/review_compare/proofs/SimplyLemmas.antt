@@ -5,6 +5,7 @@ use Rattle.std.specs.Prelude.{◌==◌, nat_le}
 use Rattle.std.specs.List.{list_any, list_all}
 use Rattle.std.proofs.lemmas.Bool.{eqb-true, and_parts, and_from, or_cases, or_left, or_right}
 use Rattle.sudo_text.specs.declared.token.Ch.{Ch}
+use Rattle.sudo_grammar.specs.declared.kind.Atom.{Atom}
 use Rattle.sudo_grammar.specs.declared.kind.Atom.TheVariants as atom
 use Rattle.sudo_match.specs.declared.patterns.Slash.{Slash}
 use Rattle.sudo_match.specs.declared.patterns.Slash.TheVariants.{Not}
@@ -14,7 +15,7 @@ use Rattle.sudo_match.proofs.FitsLemmas.{fits-star, fits-one-empty, fits-empty-e
 use Rattle.sudo_match.proofs.PartLemmas.{parts-cons, parts-empty, part-star, part-any, part-byte}
 use Rattle.review_compare.specs.Covering.{disjoint, arguments_cover, arguments_disjoint, parts_cover, parts_disjoint, no_arguments}
 use Rattle.review_compare.specs.Covering.{same_slash}
-use Rattle.review_compare.specs.Simply.{is_simple, has_few_stars, char_part, same_bool, same_chars, same_arguments, chars_cover}
+use Rattle.review_compare.specs.Simply.{is_simple, has_few_stars, char_part, same_bool, same_chars, same_arguments, same_command, same_commands, chars_cover}
 use Rattle.review_compare.specs.Simply.{chars_disjoint, given_cover, given_disjoint, CoversIsSound, DisjointIsSound}
 use Rattle.review_compare.proofs.CoveringLemmas.{covers_sound, disjoint_is_sound}
 
@@ -94,6 +95,22 @@ arguments-same None None e = refl
 arguments-same None (Some ds) e = cc
 arguments-same (Some cs) None e = cc
 arguments-same (Some cs) (Some ds) e = ap (λ (xs : List Ch). Some xs) (chars-same cs ds e)
+
+pub command-same : (a b : Atom) → same_command a b ≡ true → a ≡ b
+command-same atom.All atom.All e = refl
+command-same (atom.Command path args) (atom.Command other more) e =
+    let both = and_parts (same_chars path other) (same_arguments args more) e in
+    ap (λ (cs : List Ch). atom.Command cs args) (chars-same path other both.0)
+    ∙ ap (λ (as_given : Option (List Ch)). atom.Command other as_given) (arguments-same args more both.1)
+command-same _ _ e = cc
+
+pub commands-same : (ks ls : List Atom) → same_commands ks ls ≡ true → ks ≡ ls
+commands-same [] [] e = refl
+commands-same [] (l ∷ ls) e = cc
+commands-same (k ∷ ks) [] e = cc
+commands-same (k ∷ ks) (l ∷ ls) e =
+    let both = and_parts (same_command k l) (same_commands ks ls) e in
+    ap (λ (a : Atom). a ∷ ks) (command-same k l both.0) ∙ ap (λ (rest : List Atom). l ∷ rest) (commands-same ks ls both.1)
 
 -- ---- Patterns
 

@@ -1,6 +1,6 @@
 -- What two policies say to each command of a cell: a user on a host who asks for a target and a group, if any.
 -- sudoers(5), "User Specification": where several rows match, the last one is used. What is noted may be met or not.
-use Rattle.std.specs.Prelude.{◌≡◌, ℕ, Bool, true, false, ◌&&◌, if◌then◌else◌, List, [], ◌∷◌, ◌++◌, filter, map, Option, Some, None}
+use Rattle.std.specs.Prelude.{◌≡◌, ℕ, Bool, true, false, ◌&&◌, ◌||◌, if◌then◌else◌, List, [], ◌∷◌, ◌++◌, filter, map, Option, Some, None}
 use Rattle.std.specs.List.{list_any}
 use Rattle.sudo_text.specs.declared.line.Place.{Place}
 use Rattle.sudo_grammar.specs.declared.kind.Atom.{Atom}
@@ -24,7 +24,7 @@ use Rattle.review_compare.specs.declared.answer.Answer.TheVariants as answer
 use Rattle.review_compare.specs.Agreement.{Ruling, Tests, agree}
 use Rattle.review_compare.specs.Compared.{said, same_answer}
 use Rattle.review_compare.specs.Lines.{Choice, Line, Lined, all_met, at_line, fits_where, is_note_atom, is_unnoted, noted, nowhere}
-use Rattle.review_compare.specs.Simply.{covers_simply, disjoint_simply}
+use Rattle.review_compare.specs.Simply.{covers_simply, disjoint_simply, same_command, same_commands}
 
 -- a row: to the commands that its atom fits it answers with its tags, or with a refusal; with what stands before the atom in its
 -- line, where a note is among that
@@ -136,12 +136,16 @@ SaySame old new q = (met : Choice) (command arguments : List ℕ) →
 abbrev pub ruling_by : Decider → Ruling Lined (Option Tags)
 ruling_by d = record { atom = lined_of d; answer = d.answer }
 
--- the first command applies wherever the second fits: nothing is noted before it
-abbrev pub covers_always : Lined → Atom → Bool
-covers_always k a = is_unnoted k.before && covers_simply k.atom a
+-- both commands are written alike, and so is what stands before them
+abbrev pub same_lined : Lined → Lined → Bool
+same_lined k a = same_command k.atom a.atom && same_commands k.before a.before
+
+-- the first command applies wherever the second does: nothing is noted before it, or what is before the second
+abbrev pub covers_where : Lined → Lined → Bool
+covers_where k a = covers_simply k.atom a.atom && (is_unnoted k.before || same_lined k a)
 
 abbrev pub simple_tests : Tests Lined (Option Tags)
-simple_tests = record { covers = λ k a. covers_always k a.atom; disjoint = λ a b. disjoint_simply a.atom b.atom; same = same_answer }
+simple_tests = record { covers = covers_where; disjoint = λ a b. disjoint_simply a.atom b.atom; same = same_answer }
 
 -- the rows of one policy agree with those of another, by tests on pairs of their atoms
 abbrev pub rows_agree : List Decider → List Decider → Bool

@@ -78,6 +78,20 @@ disjoint_simply (atom.Command path args) (atom.Command other more) =
     chars_disjoint Not Not (path_chars path) (path_chars other) || given_disjoint (arguments_slash path) (arguments_slash other) args more
 disjoint_simply _ _ = false
 
+-- ---- Commands that are written alike
+
+abbrev pub same_command : Atom → Atom → Bool
+same_command atom.All atom.All = true
+same_command (atom.Command path args) (atom.Command other more) = same_chars path other && same_arguments args more
+same_command _ _ = false
+
+abbrev pub same_commands : List Atom → List Atom → Bool
+same_commands [] [] = true
+same_commands (a ∷ rest) (b ∷ more) = same_command a b && same_commands rest more
+same_commands _ _ = false
+
+-- ---- What the tests say
+
 abbrev pub CoversIsSound : Type 0
 CoversIsSound = (k a : Atom) (c x : List ℕ) → covers_simply k a ≡ true → command_fits a c x ≡ true → command_fits k c x ≡ true
 

@@ -171,7 +171,7 @@ fn compared_changed(alloc: Global, changed: &Changed<'_, '_>) -> Result<Compared
 /// Compares the rows of two policies for a target: by commands that may be answered otherwise, and then by tests on pairs of
 /// rows. Only rows that may fit a command of a row that differs are looked at; beyond a thousand such rows of one of the
 /// policies nothing is known. What is noted may be met or not: the command of a witness is decided by rows before which nothing is
-/// noted, and by no other row is one covered. Returns `AllocError` if allocation fails.
+/// noted, and other rows cover the same rows alone. Returns `AllocError` if allocation fails.
 pub(crate) fn compared_rows(
     alloc: Global,
     old: &[Ruled<'_>],

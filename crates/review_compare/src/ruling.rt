@@ -8,7 +8,7 @@ ghost use Rattle.review_compare.specs.Simply as simply;
 ghost use Rattle.review_compare.specs.Body.Shown as body;
 
 use crate::answer::is_same_answer;
-use crate::shape::Shape;
+use crate::shape::{Shape, same_command, same_commands};
 use sudo_grammar::Atom;
 use sudo_match::{Tags, Verdict, command_matches};
 use sudo_text::Place;
@@ -41,31 +41,42 @@ pub(crate) fn is_unnoted(before: &[Atom]) -> bool
     }
 }
 
-// Whether the row applies to all that the command fits: it covers the command, and nothing is noted before it.
-fn covers_always(row: &Ruled<'_>, shape: &Shape) -> bool
-    ensures { result ≡ cells.covers_always (cells.lined_of (body.shown row.now)) shape.now.atom }
+// Whether the commands of both rows are written alike, and so is what stands before them.
+fn is_same_lined(row: &Ruled<'_>, other: &Ruled<'_>) -> bool
+    ensures { result ≡ cells.same_lined (cells.lined_of (body.shown row.now))
+        (cells.lined_of (body.shown other.now)) }
 {
-    is_unnoted(row.before) && row.shape.covers(shape)
+    same_command(&row.shape.atom, &other.shape.atom) && same_commands(row.before, other.before)
 }
 
-// Whether one of the rows covers the command, and applies wherever it fits.
-fn is_covered(rows: &[Ruled<'_>], shape: &Shape) -> bool
-    ensures { result ≡ body.is_covered_by (body.all_shown rows.now) shape.now.atom }
+// Whether the row applies wherever the other does: it covers the command, and nothing is noted before it, or what is before the
+// other.
+fn covers_where(row: &Ruled<'_>, other: &Ruled<'_>) -> bool
+    ensures { result ≡ cells.covers_where (cells.lined_of (body.shown row.now))
+        (cells.lined_of (body.shown other.now)) }
+{
+    row.shape.covers(other.shape) && (is_unnoted(row.before) || is_same_lined(row, other))
+}
+
+// Whether one of the rows applies wherever the other does.
+fn is_covered(rows: &[Ruled<'_>], other: &Ruled<'_>) -> bool
+    ensures { result ≡ body.is_covered_by (body.all_shown rows.now)
+        (cells.lined_of (body.shown other.now)) }
 {
     for row in rows {
-        if covers_always(row, shape) {
+        if covers_where(row, other) {
             return true;
         }
     }
     false
 }
 
-// Whether one of these or of those rows covers the command.
-fn is_covered_by_either(rows: &[Ruled<'_>], others: &[Ruled<'_>], shape: &Shape) -> bool
+// Whether one of these or of those rows does.
+fn is_covered_by_either(rows: &[Ruled<'_>], others: &[Ruled<'_>], row: &Ruled<'_>) -> bool
     ensures { result ≡ body.is_covered_by_either (body.all_shown rows.now)
-        (body.all_shown others.now) shape.now.atom }
+        (body.all_shown others.now) (cells.lined_of (body.shown row.now)) }
 {
-    is_covered(rows, shape) || is_covered(others, shape)
+    is_covered(rows, row) || is_covered(others, row)
 }
 
 // Whether two rows answer alike, or no command is answered by both; with the rows after each.
@@ -74,8 +85,8 @@ fn pair_agrees(own: &Ruled<'_>, later: &[Ruled<'_>], other: &Ruled<'_>, more: &[
         (body.shown other.now) (body.all_shown more.now) }
 {
     is_same_answer(&own.answer, &other.answer)
-        || is_covered_by_either(later, more, own.shape)
-        || is_covered_by_either(later, more, other.shape)
+        || is_covered_by_either(later, more, own)
+        || is_covered_by_either(later, more, other)
         || own.shape.is_disjoint(other.shape)
 }
 
@@ -85,7 +96,7 @@ fn unlike_none(rows: &[Ruled<'_>], others: &[Ruled<'_>]) -> Option<usize>
         ≡ not (body.none_agrees (body.all_shown rows.now) (body.all_shown others.now)) }
 {
     for index in 0..others.len() {
-        if !is_covered_by_either(rows, &others[index + 1..], others[index].shape) {
+        if !is_covered_by_either(rows, &others[index + 1..], &others[index]) {
             return Some(index);
         }
     }
@@ -119,7 +130,7 @@ fn unlike_one(own: &Ruled<'_>, later: &[Ruled<'_>], others: &[Ruled<'_>]) -> Opt
     ensures { is_some result ≡ not (body.one_agrees (body.shown own.now)
         (body.all_shown later.now) (body.all_shown others.now)) }
 {
-    if !is_covered_by_either(later, others, own.shape) {
+    if !is_covered_by_either(later, others, own) {
         return Some(Unlike::None);
     }
     match unlike_each(own, later, others) {

@@ -197,6 +197,44 @@ pub(crate) fn are_same_arguments(first: &Option<Seq<Ch>>, second: &Option<Seq<Ch
     }
 }
 
+/// Whether two commands are written alike.
+pub(crate) fn same_command(atom: &Atom, other: &Atom) -> bool
+    ensures { result ≡ simply.same_command atom.now other.now }
+{
+    match (atom, other) {
+        (Atom::All, Atom::All) => true,
+        (
+            Atom::Command { path, args },
+            Atom::Command {
+                path: other_path,
+                args: others,
+            },
+        ) => {
+            same_chars(path.as_slice(), other_path.as_slice()) && are_same_arguments(args, others)
+        }
+        _ => false,
+    }
+}
+
+/// Whether two lists of commands are written alike.
+pub(crate) fn same_commands(atoms: &[Atom], others: &[Atom]) -> bool
+    ensures { result ≡ simply.same_commands atoms.now others.now }
+{
+    let mut own = atoms;
+    let mut left = others;
+    while let [atom, rest @ ..] = own {
+        let [other, more @ ..] = left else {
+            return false;
+        };
+        if !same_command(atom, other) {
+            return false;
+        }
+        own = rest;
+        left = more;
+    }
+    left.is_empty()
+}
+
 // Whether the text, if there is one, is not fitted by the characters.
 fn misses(slash: Slash, chars: &[Ch], text: &Option<Vec<u8>>) -> bool
     requires { IsTrue (simply.is_simple chars.now) }

@@ -1,14 +1,13 @@
 -- What contracts see of the rows that the program holds, and their agreement pair by pair; only proofs of bodies use these.
 use Rattle.std.specs.Prelude.{Bool, true, ◌&&◌, ◌||◌, List, [], ◌∷◌, map, Option}
 use Rattle.std.specs.List.{list_any}
-use Rattle.sudo_grammar.specs.declared.kind.Atom.{Atom}
 use Rattle.review_compare.specs.declared.ruling.Ruled.{Ruled}
 use Rattle.review_compare.specs.declared.witness.Witness.{Witness}
 use Rattle.review_compare.specs.Witnesses.{IsWitness}
 use Rattle.review_compare.specs.Compared.{same_answer}
 use Rattle.sudo_match.specs.declared.request.Tags.{Tags}
 use Rattle.review_compare.specs.Agreement.{Ruling}
-use Rattle.review_compare.specs.Cells.{Decider, covers_always, lined_of, ruling_by}
+use Rattle.review_compare.specs.Cells.{Decider, covers_where, lined_of, ruling_by}
 use Rattle.review_compare.specs.Lines.{Lined}
 use Rattle.review_compare.specs.Simply.{disjoint_simply}
 
@@ -18,24 +17,24 @@ shown r = record { place = r.place; answer = r.answer; before = r.before.now; at
 abbrev pub all_shown : List Ruled → List Decider
 all_shown rs = map shown rs
 
--- one of these covers the atom, and applies wherever it fits
-abbrev pub is_covered_by : List Decider → Atom → Bool
-is_covered_by ds a = list_any (λ d. covers_always (lined_of d) a) ds
+-- one of these applies wherever the command does
+abbrev pub is_covered_by : List Decider → Lined → Bool
+is_covered_by ds a = list_any (λ d. covers_where (lined_of d) a) ds
 
--- one of these or of those covers the atom
-abbrev pub is_covered_by_either : List Decider → List Decider → Atom → Bool
+-- one of these or of those does
+abbrev pub is_covered_by_either : List Decider → List Decider → Lined → Bool
 is_covered_by_either ds es a = is_covered_by ds a || is_covered_by es a
 
 -- two rows, with those after each: they answer alike, or no command is answered by both
 abbrev pub pair_agrees : Decider → List Decider → Decider → List Decider → Bool
 pair_agrees d later e more =
     same_answer d.answer e.answer
-    || ((is_covered_by_either later more d.atom || is_covered_by_either later more e.atom) || disjoint_simply d.atom e.atom)
+    || ((is_covered_by_either later more (lined_of d) || is_covered_by_either later more (lined_of e)) || disjoint_simply d.atom e.atom)
 
 -- where none of these answers, none of the others does
 abbrev pub none_agrees : List Decider → List Decider → Bool
 none_agrees ds [] = true
-none_agrees ds (e ∷ es) = is_covered_by_either ds es e.atom && none_agrees ds es
+none_agrees ds (e ∷ es) = is_covered_by_either ds es (lined_of e) && none_agrees ds es
 
 -- a row, with those after it, agrees with each of the others
 abbrev pub each_agrees : Decider → List Decider → List Decider → Bool
@@ -44,7 +43,7 @@ each_agrees d later (e ∷ es) = pair_agrees d later e es && each_agrees d later
 
 -- and where it answers, one of the others does
 abbrev pub one_agrees : Decider → List Decider → List Decider → Bool
-one_agrees d later es = is_covered_by_either later es d.atom && each_agrees d later es
+one_agrees d later es = is_covered_by_either later es (lined_of d) && each_agrees d later es
 
 abbrev pub all_agree : List Decider → List Decider → Bool
 all_agree [] es = true
