@@ -197,7 +197,8 @@ class Host:
             states.append(State("root"))
         steps = [self.steps[pair] for pair in zip(states, states[1:])]
         asked = [self.asked(row.user, *pair) for pair in zip(states, states[1:])]
-        return LEVELS[min(step.level for step in steps)], PASSWORDS[max(asked, default=0)], steps[0].place, steps[0].tags, len(steps)
+        level = LEVELS[min(step.level for step in steps)]
+        return level, PASSWORDS[max(asked, default=0)], steps[0].place, steps[0].tags, len(steps)
 
 
 class Draw(listing.Draw):
@@ -302,7 +303,7 @@ class Roots(Drawn):
                     order = (*LEVELS, "root")
                     self.assertGreaterEqual(order.index(bound.level), order.index(row.level), (bound, row, text))
                     if bound.level == row.level:
-                        self.assertLessEqual(*map(PASSWORDS.index, (bound.password, row.password)), (bound, row, text))
+                        self.assertLessEqual(PASSWORDS.index(bound.password), PASSWORDS.index(row.password), (bound, row, text))
                 else:
                     self.assertEqual((bound.level, bound.password), (row.level, row.password), (bound, row, text))
         yield from (row.depends for row in most.values())
