@@ -15,7 +15,8 @@ use Rattle.sudo_match.proofs.FitsLemmas.{fits-star, fits-one-empty, fits-empty-e
 use Rattle.sudo_match.proofs.PartLemmas.{parts-cons, parts-empty, part-star, part-any, part-byte}
 use Rattle.review_compare.specs.Covering.{disjoint, arguments_cover, arguments_disjoint, parts_cover, parts_disjoint, no_arguments}
 use Rattle.review_compare.specs.Covering.{same_slash}
-use Rattle.review_compare.specs.Simply.{is_simple, has_few_stars, char_part, same_bool, same_chars, same_arguments, same_command, same_commands, chars_cover}
+use Rattle.review_compare.specs.Simply.{is_simple, has_few_stars, char_part, same_bool, same_chars, same_arguments, chars_cover}
+use Rattle.review_compare.specs.Simply.{same_command, same_commands}
 use Rattle.review_compare.specs.Simply.{chars_disjoint, given_cover, given_disjoint, CoversIsSound, DisjointIsSound}
 use Rattle.review_compare.proofs.CoveringLemmas.{covers_sound, disjoint_is_sound}
 
