@@ -56,9 +56,7 @@ fn has_letter(field: &[u8]) -> bool
 fn is_host_field(field: &[u8]) -> bool
     ensures { result ≡ spec.is_host_field field.now }
 {
-    field.is_empty()
-        || field == b"-".as_slice()
-        || (has_host_bytes(field) && has_letter(field))
+    field.is_empty() || field == b"-".as_slice() || (has_host_bytes(field) && has_letter(field))
 }
 
 // Returns the triple that the fields of a record before its domain state, if they state one.
