@@ -1,5 +1,5 @@
 -- The chain that is chosen asks for no more than any of its level, and has no more steps than those that ask for no more.
-use Rattle.std.proofs.Common.{◌≡◌, ◌<◌, ◌≤◌, ◌∙◌, ◌⊎◌, ℕ, true, false, List, ap, arith, refl, get_or, length, subst, sym}
+use Rattle.std.proofs.Common.{◌≡◌, ◌<◌, ◌≤◌, ◌∙◌, ◌⊎◌, ℕ, true, false, List, ap, arith, refl, get_or, length, map, subst, sym}
 use Rattle.std.proofs.Common.{Option, Some, None, inl, inr}
 use Rattle.std.specs.Prelude.{MatchOption, slice_get}
 use Rattle.std.specs.List.{Contains}
@@ -18,6 +18,7 @@ use Rattle.review_roots.specs.declared.state.State.{State}
 use Rattle.review_roots.specs.declared.way.Way.{Way}
 use Rattle.review_roots.specs.Sought.{any_steps, free_steps, own_steps, unasked_steps, steps_of}
 use Rattle.review_roots.specs.Chains.{HasNoPath, HasPath, LeadsAlong, Path}
+use Rattle.review_roots.specs.Body.Found.{AreUnentered}
 use Rattle.review_roots.specs.Body.Found.{AreFound, AreLevels, ChainsLead, IsBest, IsComplete, IsFound, IsFoundAt, IsLower}
 use Rattle.review_roots.specs.Body.Found.{any_sought, found_states, lower_found}
 use Rattle.review_roots.specs.Ranks.{is_at_least, rank}
@@ -27,7 +28,7 @@ use Rattle.review_roots.proofs.ChainLemmas.{chains-are-paths}
 use Rattle.review_roots.proofs.EaseLemmas.{Excludes, IsOf, chain-asks-most, counted-leads, easiest-of, little-leads, most_of}
 use Rattle.review_roots.proofs.EaseLemmas.{excludes-each, excludes-none, excludes-some}
 use Rattle.review_roots.proofs.KeptLemmas.{host-keeps}
-use Rattle.review_roots.proofs.OwnLemmas.{own-none}
+use Rattle.review_roots.proofs.OwnLemmas.{own-none, unentered-none}
 use Rattle.review_roots.proofs.PathLemmas.{no-root, starts-chainless}
 use Rattle.review_roots.proofs.RootLemmas.{start-is, states-have}
 use Rattle.review_roots.proofs.SearchLemmas.{at-least-below, at-least-trans, from-map}
@@ -132,6 +133,17 @@ module _
         own-none h target user l enough chains.any_starts.items chains.unasked.items chains.near.items
         (starts-chainless h target l chains.any.items chains.any_starts.items lead.any lead.are.any_starts lead.are.any_users)
         lead.unasked lead.near far away ((host-keeps h).starts user known) unasked
+
+    -- nor where no step leads to where a chain may turn
+    pub none-turning :
+        (chains : Chains) → ChainsLead h target l chains → HasNoPath (unasked_steps h target) l start →
+        get_or chains.wanted.items user true ≡ true → AreUnentered h l user (map (λ c. c.now) chains.asking.items) chains.near_states.items →
+        (user ≡ target → ⊥) → HasNoPath (own_steps h target user) l start
+    none-turning chains lead unasked marks unentered away =
+        unentered-none h target user l enough chains.any_starts.items chains.unasked.items chains.near_states.items chains.wanted.items
+        (map (λ c. c.now) chains.asking.items)
+        (starts-chainless h target l chains.any.items chains.any_starts.items lead.any lead.are.any_starts lead.are.any_users)
+        lead.unasked lead.near_states marks lead.asking unentered away ((host-keeps h).starts user known) unasked
 
 -- ---- From level to level
 

@@ -18,6 +18,7 @@ use Rattle.review_roots.specs.declared.state.State.{State}
 use Rattle.review_roots.specs.Body.Found.{AreNear, AreNearTo, IsCandidate, any_sought, found_by, found_states, is_left, marked, reaches}
 use Rattle.review_roots.specs.declared.level.Level.TheVariants as level
 use Rattle.review_roots.specs.Body.Candidates.{is_heard}
+use Rattle.review_roots.specs.Body.Found.{AreUnentered, IsUnentered}
 use Rattle.review_roots.specs.Body.Found.{asking_of, is_asking, is_counted, may_start}
 use Rattle.review_roots.specs.Body.May.{may_reach}
 use Rattle.review_roots.specs.Ranks.{is_at_least}
@@ -211,30 +212,43 @@ filtered-within {X} p q within (x ∷ xs) = go (filtered-within p q within xs) (
         ∙ rest
         ∙ sym (ap (λ b. cond b (x ∷ filter p xs) (filter p xs)) is)
 
--- all that are left for a search by the own steps of a marked user
-pub asking-left :
-    (h : HostSteps) (target user : ℕ) (near : List Bool) (cs : List Candidate) → get_or near user true ≡ true →
-    cs ≡ asking_of h target near →
-    filter (is_left h (record { target = target; counted = counted.Own user }) []) cs
-    ≡ filter (is_left h (record { target = target; counted = counted.Own user }) []) h.candidates.now
-asking-left h target user near cs marks is =
-    ap (filter left) is ∙ filtered-within left (is_asking h target near) asks h.candidates.now
-  where
-    left : Candidate → Bool
-    left = is_left h (record { target = target; counted = counted.Own user }) []
+module _ (h : HostSteps) (target user : ℕ) (near : List Bool) (marks : get_or near user true ≡ true) where
+  abbrev left : Candidate → Bool
+  left = is_left h (record { target = target; counted = counted.Own user }) []
 
-    one : (g o r n : Bool) → (o ≡ true → n ≡ true) → (g || (o || r)) ≡ true → (n || (g || r)) ≡ true
-    one g o r true marks e = refl
-    one true o r false marks e = refl
-    one false true r false marks e = absurd (let bad : false ≡ true = marks refl in cc)
-    one false false true false marks e = refl
-    one false false false false marks e = e
+  one : (g o r n : Bool) → (o ≡ true → n ≡ true) → (g || (o || r)) ≡ true → (n || (g || r)) ≡ true
+  one g o r true marks e = refl
+  one true o r false marks e = refl
+  one false true r false marks e = absurd (let bad : false ≡ true = marks refl in cc)
+  one false false true false marks e = refl
+  one false false false false marks e = e
 
-    asks : (c : Candidate) → left c ≡ true → is_asking h target near c ≡ true
-    asks c e =
-        let heard = and_parts (is_heard h.on.items target c) (is_counted h (counted.Own user) c)
-        (and_parts (may_start [] c.state) (is_heard h.on.items target c && is_counted h (counted.Own user) c) e).1 in
-        ap (λ b. b && (get_or near c.state.user true || is_counted h counted.Unasked c)) heard.0
-        ∙ one ((length h.groups.now == 0) && is_at_least level.AllBut h.least) (c.state.user == user)
-        (may_reach h.on.items h.blocks.now h.least counted.Unasked c.listed.items) (get_or near c.state.user true)
-        (λ same. ap (λ u. get_or near u true) (eqb-true c.state.user user same) ∙ marks) heard.1
+  asks : (c : Candidate) → left c ≡ true → is_asking h target near c ≡ true
+  asks c e =
+      let heard = and_parts (is_heard h.on.items target c) (is_counted h (counted.Own user) c)
+      (and_parts (may_start [] c.state) (is_heard h.on.items target c && is_counted h (counted.Own user) c) e).1 in
+      ap (λ b. b && (get_or near c.state.user true || is_counted h counted.Unasked c)) heard.0
+      ∙ one ((length h.groups.now == 0) && is_at_least level.AllBut h.least) (c.state.user == user)
+      (may_reach h.on.items h.blocks.now h.least counted.Unasked c.listed.items) (get_or near c.state.user true)
+      (λ same. ap (λ u. get_or near u true) (eqb-true c.state.user user same) ∙ marks) heard.1
+
+  -- all that are left for a search by the own steps of a marked user
+  pub asking-left : (cs : List Candidate) → cs ≡ asking_of h target near → filter left cs ≡ filter left h.candidates.now
+  asking-left cs is = ap (filter left) is ∙ filtered-within left (is_asking h target near) asks h.candidates.now
+
+  pub in-left-asking : (c : Candidate) → Contains (filter left h.candidates.now) c → Contains (asking_of h target near) c
+  in-left-asking c inside =
+      in-filter (is_asking h target near) h.candidates.now c
+      (All-contains (Contains h.candidates.now) (filter left h.candidates.now) c
+      (All-filter left (Contains h.candidates.now) h.candidates.now (All-contains_itself h.candidates.now)) inside)
+      (asks c (All-contains (λ c. left c ≡ true) (filter left h.candidates.now) c (filter_passes left h.candidates.now) inside))
+
+-- one near state more that is not entered, if it is the user's
+pub unentered-next :
+    (h : HostSteps) (l : Level) (user : ℕ) (asking : List Candidate) (near : List Found) (n : ℕ) (d : Found) → n < length near →
+    ((get_or near n d).state.user ≡ user → IsUnentered h l user asking (get_or near n d).state) →
+    AreUnentered h l user asking (take n near) → AreUnentered h l user asking (take (n + 1) near)
+unentered-next h l user asking near n d within one so_far =
+    let f = get_or near n d in
+    subst (AreUnentered h l user asking) (sym (take-more near n f within (same-there near n d f within)))
+    (All-push (λ f. f.state.user ≡ user → IsUnentered h l user asking f.state) (take n near) f so_far one)

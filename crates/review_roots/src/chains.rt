@@ -12,7 +12,7 @@ use crate::Level;
 use crate::candidate::Candidate;
 use crate::given::Counted;
 use crate::host::HostSteps;
-use crate::near::{asking, near_users};
+use crate::near::{asking, near_states, users_of, wanted_of};
 use crate::search::{Found, Reach, Sought, found_at, found_of, has_step, spread_of};
 use crate::starts::starts_of;
 use std::alloc::{AllocError, Global};
@@ -30,6 +30,8 @@ pub(crate) struct Chains<'r> {
     pub(crate) free: Vec<Found>,
     pub(crate) free_starts: Vec<Option<usize>>,
     pub(crate) near: Vec<bool>,
+    pub(crate) near_states: Vec<Found>,
+    pub(crate) wanted: Vec<bool>,
     pub(crate) goals: Vec<Found>,
     pub(crate) asking: Vec<&'r Candidate>,
 }
@@ -80,9 +82,11 @@ fn chains_at<'r>(
     )?;
     let unasked_starts = starts_of(alloc, users, &unasked)?;
     let free_starts = starts_of(alloc, users, &free)?;
-    let near = near_users(alloc, steps, target, level, &any_starts, &unasked)?;
+    let near_states = near_states(alloc, steps, target, level, &any_starts, &unasked)?;
+    let near = users_of(alloc, users, &near_states)?;
+    let wanted = wanted_of(alloc, &any_starts, &unasked_starts, &near)?;
     let goals = found_at(alloc, steps, target)?;
-    let asking = asking(alloc, steps, target, &near)?;
+    let asking = asking(alloc, steps, target, &wanted)?;
     Ok(Chains {
         any,
         any_starts,
@@ -91,6 +95,8 @@ fn chains_at<'r>(
         free,
         free_starts,
         near,
+        near_states,
+        wanted,
         goals,
         asking,
     })

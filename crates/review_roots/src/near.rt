@@ -1,18 +1,20 @@
 //! Which users are one step, of any kind, from a chain whose steps may all go without a password: from no other user does a chain lead
 //! that asks for nobody else's.
-ghost use Rattle.std.specs.Prelude.{◌≡◌, All, IfOk, IsTrue, get_or, length, map, true};
+ghost use Rattle.std.specs.Prelude.{◌≡◌, All, IfOk, IsTrue, false, get_or, length, map, true};
 ghost use Rattle.review_roots.specs.Ranks.{is_at_least};
-ghost use Rattle.review_roots.specs.Body.Found.{AreNear, AreNearTo, asking_of, is_asking, marked};
+ghost use Rattle.review_roots.specs.Body.Found.{AreNearTo, AreUnentered, IsCandidate, IsUnentered, asking_of, is_asking, marked};
 
 use crate::Level;
 use crate::candidate::Candidate;
 use crate::given::Counted;
 use crate::host::HostSteps;
-use crate::search::{Aim, Found, Sought, draw_to, heard};
+use crate::search::{Aim, Found, Sought, draw_to, heard, is_reached_by};
+use crate::state::State;
 use std::alloc::{AllocError, Global};
 
-// Returns the states of the candidates with a step of the level, of any kind, to one of those that are found.
-fn near_states(
+/// Returns the states of the candidates with a step of the level, of any kind, to one of those that are found; of those with which a chain
+/// may begin. Returns `AllocError` if allocation fails.
+pub(crate) fn near_states(
     alloc: Global,
     steps: &HostSteps<'_, '_>,
     target: usize,
@@ -70,8 +72,12 @@ fn mark_all(marks: &mut [bool], found: &[Found])
     }
 }
 
-// Returns for each user whether it is that of one of these states.
-fn users_of(alloc: Global, users: usize, found: &[Found]) -> Result<Vec<bool>, AllocError>
+/// Returns for each user whether it is that of one of these states. Returns `AllocError` if allocation fails.
+pub(crate) fn users_of(
+    alloc: Global,
+    users: usize,
+    found: &[Found],
+) -> Result<Vec<bool>, AllocError>
     ensures { IfOk result (λ marks. All (λ f. get_or marks.items f.state.user true ≡ true)
         found.now) }
 {
@@ -80,22 +86,32 @@ fn users_of(alloc: Global, users: usize, found: &[Found]) -> Result<Vec<bool>, A
     Ok(marks)
 }
 
-/// Returns for each user whether a step of the level of one of its states, of any kind, leads to one of those that are found; of the
-/// users alone that have a start. Returns `AllocError` if allocation fails.
-pub(crate) fn near_users(
-    alloc: Global,
-    steps: &HostSteps<'_, '_>,
-    target: usize,
-    level: Level,
+// Whether the user is marked, has a start, and has none by steps that may go without a password.
+fn is_wanted(
     starts: &[Option<usize>],
-    found: &[Found],
-) -> Result<Vec<bool>, AllocError>
-    requires level { IsTrue (is_at_least steps.now.least level) }
-    ensures { IfOk result (λ near. AreNear steps.now target level starts.now found.now near.items) }
-{
-    let near = near_states(alloc, steps, target, level, starts, found)?;
-    let marks = users_of(alloc, steps.directory.people().len(), &near)?;
-    Ok(marks)
+    unasked: &[Option<usize>],
+    marks: &[bool],
+    user: usize,
+) -> bool {
+    match (starts.get(user), unasked.get(user)) {
+        (Some(Some(_)), Some(None)) => is_near(marks, user),
+        _ => false,
+    }
+}
+
+/// Returns for each user whether a chain may be sought by its own steps: whether it is marked, and has a start, but none by steps that
+/// may go without a password. Returns `AllocError` if allocation fails.
+pub(crate) fn wanted_of(
+    alloc: Global,
+    starts: &[Option<usize>],
+    unasked: &[Option<usize>],
+    marks: &[bool],
+) -> Result<Vec<bool>, AllocError> {
+    let mut wanted = Vec::new(alloc);
+    for user in 0..marks.len() {
+        wanted.push(is_wanted(starts, unasked, marks, user))?;
+    }
+    Ok(wanted)
 }
 
 /// Whether the user is marked. One past the last is.
@@ -141,4 +157,57 @@ pub(crate) fn asking<'r>(
         }
     }
     Ok(asking)
+}
+
+// Whether the near state is the user's, and has no added group, or a step of a candidate that counts for the user leads to it.
+fn is_entered(
+    alloc: Global,
+    steps: &HostSteps<'_, '_>,
+    level: Level,
+    user: usize,
+    asking: &[&Candidate],
+    state: State,
+) -> Result<bool, AllocError>
+    requires level { IsTrue (is_at_least steps.now.least level) }
+    requires candidates { All (IsCandidate steps.now) (map (λ c. c.now) asking.now) }
+    ensures { IfOk result (λ is. is ≡ false → state.user ≡ user → IsUnentered steps.now level user
+        (map (λ c. c.now) asking.now) state) }
+{
+    if state.user != user {
+        return Ok(false);
+    }
+    let aim = Aim {
+        index: 0,
+        state,
+        level,
+        counted: Counted::Own(user),
+        steps: 0,
+    };
+    match state.added {
+        None => Ok(true),
+        Some(_) => is_reached_by(alloc, steps, aim, asking),
+    }
+}
+
+/// Whether one of the near states of the user has no added group, or a step that counts for the user leads to one. Returns `AllocError` if
+/// allocation fails.
+pub(crate) fn may_turn(
+    alloc: Global,
+    steps: &HostSteps<'_, '_>,
+    level: Level,
+    user: usize,
+    asking: &[&Candidate],
+    near: &[Found],
+) -> Result<bool, AllocError>
+    requires level { IsTrue (is_at_least steps.now.least level) }
+    requires candidates { All (IsCandidate steps.now) (map (λ c. c.now) asking.now) }
+    ensures { IfOk result (λ is. is ≡ false → AreUnentered steps.now level user
+        (map (λ c. c.now) asking.now) near.now) }
+{
+    for index in 0..near.len() {
+        if is_entered(alloc, steps, level, user, asking, near[index].state)? {
+            return Ok(true);
+        }
+    }
+    Ok(false)
 }

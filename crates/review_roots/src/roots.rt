@@ -1,5 +1,5 @@
 //! Who can become a target on a host.
-ghost use Rattle.std.specs.Prelude.{◌≡◌, ◌<◌, IfOk, MatchOption, Some, None, get_or, length, true};
+ghost use Rattle.std.specs.Prelude.{◌≡◌, ◌<◌, IfOk, IsTrue, MatchOption, Some, None, get_or, length, true};
 ghost use Rattle.review_roots.specs.Chains.{HasNoPath};
 ghost use Rattle.review_roots.specs.Ranks.{is_at_least};
 ghost use Rattle.review_roots.specs.Sought.{any_steps, free_steps, unasked_steps};
@@ -14,8 +14,8 @@ use crate::Level;
 use crate::chains::{Chains, Levels, levels_of};
 use crate::given::Counted;
 use crate::host::HostSteps;
-use crate::near::is_near;
-use crate::search::{Found, Sought, found_among};
+use crate::near::{is_near, may_turn};
+use crate::search::{Found, Sought, found_among, found_of};
 use crate::starts::start_at;
 use crate::state::State;
 use crate::way::{Way, way_of};
@@ -70,7 +70,7 @@ fn own_way(
     way: Way,
 ) -> Result<Way, AllocError>
     requires lead { ChainsLead steps.now target level chains.now }
-    requires near { get_or chains.now.near.items user true ≡ true }
+    requires wanted { get_or chains.now.wanted.items user true ≡ true }
     requires known { user < length steps.now.directory.now.people }
     requires best { IsBest steps.now target level user }
     requires free { HasNoPath (free_steps steps.now target) level (state_with None user) }
@@ -89,6 +89,71 @@ fn own_way(
         Some(index) => way_of(alloc, steps, level, &own, index),
         None => Ok(way),
     }
+}
+
+// Does the same, with a search from nothing.
+fn plain_way(
+    alloc: Global,
+    steps: &HostSteps<'_, '_>,
+    target: usize,
+    level: Level,
+    user: usize,
+    way: Way,
+) -> Result<Way, AllocError>
+    requires enough { IsTrue (is_at_least steps.now.least level) }
+    requires known { user < length steps.now.directory.now.people }
+    requires best { IsBest steps.now target level user }
+    requires free { HasNoPath (free_steps steps.now target) level (state_with None user) }
+    requires unasked { HasNoPath (unasked_steps steps.now target) level (state_with None user) }
+    requires level { way.level ≡ level }
+    requires way { IsChain steps.now (any_sought target) (state_with None user) way }
+    ensures { IfOk result (λ way. IsWay steps.now target steps.now.least (state_with None user)
+        way) }
+{
+    let sought = Sought {
+        target,
+        counted: Counted::Own(user),
+    };
+    let own = found_of(alloc, steps, sought, level, &[])?;
+    match start_index(&own, user) {
+        Some(index) => way_of(alloc, steps, level, &own, index),
+        None => Ok(way),
+    }
+}
+
+// Does the same, where a step leads to where such a chain may turn to the target.
+fn turning_way(
+    alloc: Global,
+    steps: &HostSteps<'_, '_>,
+    target: usize,
+    level: Level,
+    chains: &Chains<'_>,
+    user: usize,
+    way: Way,
+) -> Result<Way, AllocError>
+    requires lead { ChainsLead steps.now target level chains.now }
+    requires wanted { get_or chains.now.wanted.items user true ≡ true }
+    requires away { user ≡ target → ⊥ }
+    requires known { user < length steps.now.directory.now.people }
+    requires best { IsBest steps.now target level user }
+    requires free { HasNoPath (free_steps steps.now target) level (state_with None user) }
+    requires unasked { HasNoPath (unasked_steps steps.now target) level (state_with None user) }
+    requires level { way.level ≡ level }
+    requires way { IsChain steps.now (any_sought target) (state_with None user) way }
+    ensures { IfOk result (λ way. IsWay steps.now target steps.now.least (state_with None user)
+        way) }
+{
+    if !may_turn(
+        alloc,
+        steps,
+        level,
+        user,
+        &chains.asking,
+        &chains.near_states,
+    )? {
+        return Ok(way);
+    }
+    own_way(alloc, steps, target, level, chains, user, way)
 }
 
 // Returns the chain of a found state that is the user without an added group, where each chain of the level asks for a password: one
@@ -119,7 +184,11 @@ fn asking_way(
     if !is_near(&chains.near, user) {
         return Ok(way);
     }
-    own_way(alloc, steps, target, level, chains, user, way)
+    if is_near(&chains.wanted, user) {
+        turning_way(alloc, steps, target, level, chains, user, way)
+    } else {
+        plain_way(alloc, steps, target, level, user, way)
+    }
 }
 
 // Returns the chain of a found state that is the user without an added group, where no chain of the level asks for no password: one

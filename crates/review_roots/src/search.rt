@@ -390,8 +390,8 @@ fn is_reached(steps: &HostSteps<'_, '_>, aim: Aim, toward: &Toward, left: &[&Can
     false
 }
 
-// Does the same, with what steps to the aim depend on.
-fn is_reached_by(
+/// Whether a candidate has a step to the aim. Returns `AllocError` if allocation fails.
+pub(crate) fn is_reached_by(
     alloc: Global,
     steps: &HostSteps<'_, '_>,
     aim: Aim,

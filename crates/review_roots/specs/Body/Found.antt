@@ -170,6 +170,15 @@ pub record AreChains (h : HostSteps) (c : Chains) : Type 0 where
 abbrev pub found_there : State → Found
 found_there s = record { state = s; steps = 0; next = None; given = nothing }
 
+-- the state has an added group, and no step of a candidate that counts for the user leads to it
+pub record IsUnentered (h : HostSteps) (l : Level) (user : ℕ) (left : List Candidate) (s : State) : Type 0 where
+  pub added : s.added ≡ None → ⊥
+  pub none : All (λ c. is_at_least l (level_for (counted.Own user) c.state.user (step_on h c.state s)) ≡ false) left
+
+-- that is so of each of these states of the user
+abbrev pub AreUnentered : HostSteps → Level → ℕ → List Candidate → List Found → Type 0
+AreUnentered h l user left near = All (λ f. f.state.user ≡ user → IsUnentered h l user left f.state) near
+
 -- the states at the target, and which candidates may be on the way from a marked user by its own steps and by steps of others that
 -- may go without a password
 abbrev pub goals_of : HostSteps → ℕ → List Found
@@ -192,7 +201,8 @@ pub record ChainsLead (h : HostSteps) (target : ℕ) (l : Level) (c : Chains) : 
   pub near : AreNear h target l c.any_starts.items c.unasked.items c.near.items
   pub are : AreChains h c
   pub goals : c.goals.items ≡ goals_of h target
-  pub asking : map (λ c. c.now) c.asking.items ≡ asking_of h target c.near.items
+  pub asking : map (λ c. c.now) c.asking.items ≡ asking_of h target c.wanted.items
+  pub near_states : AreNearTo h target l c.any_starts.items c.unasked.items c.near_states.items
 
 -- no further state has a chain of a lower level, if one has to be at least of the least; or these are the chains of it
 abbrev pub IsLower : HostSteps → ℕ → Level → List Found → Option Chains → Type 0

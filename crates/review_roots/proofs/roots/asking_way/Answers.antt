@@ -3,8 +3,14 @@ use Rattle.review_roots.specs.Body.Found.{any_sought}
 use Rattle.review_roots.proofs.FreeLemmas.{chosen, none-marked, way-any}
 use Rattle.review_roots.proofs.roots.asking_way.Goals as goal
 
-pub own_way-requires-clause-way : goal.own_way-requires-clause-way
-own_way-requires-clause-way c =
+pub turning_way-requires-clause-way : goal.turning_way-requires-clause-way
+turning_way-requires-clause-way c =
+    chosen c.args.steps.now c.args.target c.args.level c.requires.lead.level c.args.user c.requires.known (any_sought c.args.target)
+    c.deref.result.now c.args.chains.now.any.items c.args.index c.in_ok-way.way c.in_ok-way.ensures.1 c.deref.ensures.value
+    c.requires.lead.any c.requires.start
+
+pub plain_way-requires-clause-way : goal.plain_way-requires-clause-way
+plain_way-requires-clause-way c =
     chosen c.args.steps.now c.args.target c.args.level c.requires.lead.level c.args.user c.requires.known (any_sought c.args.target)
     c.deref.result.now c.args.chains.now.any.items c.args.index c.in_ok-way.way c.in_ok-way.ensures.1 c.deref.ensures.value
     c.requires.lead.any c.requires.start

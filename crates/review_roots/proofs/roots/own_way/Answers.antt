@@ -39,5 +39,5 @@ found_among-requires-clause-goals c = c.deref.ensures.value ∙ c.requires.lead.
 pub found_among-requires-clause-candidates : goal.found_among-requires-clause-candidates
 found_among-requires-clause-candidates c =
     let h = c.args.steps.now in
-    asking-left h c.args.target c.args.user c.args.chains.now.near.items (map (λ k. k.now) c.deref-2.result.now) c.requires.near
+    asking-left h c.args.target c.args.user c.args.chains.now.wanted.items c.requires.wanted (map (λ k. k.now) c.deref-2.result.now)
     (ap (λ (xs : List (Bor Candidate)). map (λ k. k.now) xs) c.deref-2.ensures.value ∙ c.requires.lead.asking)
