@@ -60,11 +60,11 @@ class Marks(Drawn):
         asked = {(row[0], row[1]): row[4] for row in rows}
         answers = roots.answers()
         for at, host in enumerate(HOSTS):
-            drawn = Host(policy, host)
+            steps = Host(policy, host)
             for user, row in zip(USERS[1:], roots.rows[1:]):
                 mark = answers[row[at]].mark
                 says = mark.endswith("?") or mark == "A!"
-                if drawn.distance(user, 1, 1) is not None:
+                if steps.distance(user, 1, 1) is not None:
                     self.assertTrue(says, f"{user} on {host}: {mark}")
                     yield "a lesser chain" if asked[user, host] not in ("none", "?") else "as the column"
                 elif mark != "·":

@@ -168,9 +168,7 @@ class Host:
 
     def distance(self, user: str, level: int, most: int) -> int | None:
         """Returns how few steps lead from a user to root, of a level or a better one, that ask for no more than a password."""
-        good = [
-            (one, other) for (one, other), it in self.steps.items() if it.level >= level and self.asked(user, one, other) <= most
-        ]
+        good = {pair for pair, it in self.steps.items() if it.level >= level and self.asked(user, *pair) <= most}
         found, last, count = {State(user)}, {State(user)}, 0
         while last and all(state.user != "root" for state in last):
             last = {other for one, other in good if one in last} - found
@@ -197,8 +195,8 @@ class Host:
             states.append(State("root"))
         steps = [self.steps[pair] for pair in zip(states, states[1:])]
         asked = [self.asked(row.user, *pair) for pair in zip(states, states[1:])]
-        level = LEVELS[min(step.level for step in steps)]
-        return level, PASSWORDS[max(asked, default=0)], steps[0].place, steps[0].tags, len(steps)
+        level, password = LEVELS[min(step.level for step in steps)], PASSWORDS[max(asked, default=0)]
+        return level, password, steps[0].place, steps[0].tags, len(steps)
 
 
 class Draw(listing.Draw):
@@ -303,7 +301,8 @@ class Roots(Drawn):
                     order = (*LEVELS, "root")
                     self.assertGreaterEqual(order.index(bound.level), order.index(row.level), (bound, row, text))
                     if bound.level == row.level:
-                        self.assertLessEqual(PASSWORDS.index(bound.password), PASSWORDS.index(row.password), (bound, row, text))
+                        least = PASSWORDS.index(bound.password)
+                        self.assertLessEqual(least, PASSWORDS.index(row.password), (bound, row, text))
                 else:
                     self.assertEqual((bound.level, bound.password), (row.level, row.password), (bound, row, text))
         yield from (row.depends for row in most.values())

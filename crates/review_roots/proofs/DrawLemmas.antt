@@ -90,7 +90,14 @@ module _
     (finds : new ≡ found
     ++ map (found_by h (record { index = n; state = t.state; level = l; counted = q.counted; steps = t.steps + 1 }))
     (filter (reaches h (record { index = n; state = t.state; level = l; counted = q.counted; steps = t.steps + 1 })) cs))
-    (keeps : kept ≡ filter (λ c. not (reaches h (record { index = n; state = t.state; level = l; counted = q.counted; steps = t.steps + 1 }) c)) cs)
+    (keeps : kept ≡ filter (λ c. not (reaches h (record {
+      index = n;
+      state = t.state;
+      level = l;
+      counted = q.counted;
+      steps =
+          t.steps + 1;
+    }) c)) cs)
   where
     abbrev aim : Aim
     aim = record { index = n; state = t.state; level = l; counted = q.counted; steps = t.steps + 1 }
@@ -169,7 +176,8 @@ drawn-next h q l n m t found cs there none drawn =
         go : (k < n) ⊎ (n ≤ k) → is_at_least l ((kept_steps h q).level c.state f.state) ≡ false
         go (inl before) =
             All-contains (λ s. (k : ℕ) (f : Found) → k < n → slice_get found k ≡ Some f
-            → is_at_least l ((kept_steps h q).level s f.state) ≡ false) (states_of cs) c.state drawn (to-map (λ (c : Candidate). c.state) cs c inside)
+            → is_at_least l ((kept_steps h q).level s f.state)
+            ≡ false) (states_of cs) c.state drawn (to-map (λ (c : Candidate). c.state) cs c inside)
             k f before at
         go (inr from) =
             let same : k ≡ n = omega (arith, from, less) in

@@ -137,7 +137,8 @@ module _
     -- nor where no step leads to where a chain may turn
     pub none-turning :
         (chains : Chains) → ChainsLead h target l chains → HasNoPath (unasked_steps h target) l start →
-        get_or chains.wanted.items user true ≡ true → AreUnentered h l user (map (λ c. c.now) chains.asking.items) chains.near_states.items →
+        get_or chains.wanted.items user true ≡ true → AreUnentered h l user (map
+        (λ c. c.now) chains.asking.items) chains.near_states.items →
         (user ≡ target → ⊥) → HasNoPath (own_steps h target user) l start
     none-turning chains lead unasked marks unentered away =
         unentered-none h target user l enough chains.any_starts.items chains.unasked.items chains.near_states.items chains.wanted.items
@@ -178,7 +179,8 @@ module _ (h : HostSteps) (target user : ℕ) (known : user < length h.directory.
 
     module _ (none' : is_at_least h.least level.AllBut ≡ true → HasNoPath (any_steps h target) level.AllBut first) where
       pub none-listed : x.listed ≡ None → is_at_least h.least level.Listed ≡ true → HasNoPath (any_steps h target) level.Listed first
-      none-listed is asked = go x.all_but are.all_but (subst (IsLower h target level.Listed (lower_found x.all.any.items x.all_but)) is are.listed)
+      none-listed is asked = go x.all_but are.all_but (subst (IsLower h target level.Listed
+          (lower_found x.all.any.items x.all_but)) is are.listed)
         where
           go :
               (o : Option Chains) → IsLower h target level.AllBut x.all.any.items o →
@@ -202,7 +204,8 @@ module _ (h : HostSteps) (target user : ℕ) (known : user < length h.directory.
       none-least none_listed = go h.least refl
         where
           go : (m : Level) → h.least ≡ m → HasNoPath (any_steps h target) h.least first
-          go level.None is = absurd (let bad : is_at_least level.Listed level.None ≡ true = ap (is_at_least level.Listed) (sym is) ∙ h.listed in cc)
+          go level.None is = absurd (let bad : is_at_least level.Listed level.None
+              ≡ true = ap (is_at_least level.Listed) (sym is) ∙ h.listed in cc)
           go level.Listed is =
               subst (λ m. HasNoPath (any_steps h target) m first) (sym is) (none_listed (ap (λ m. is_at_least m level.Listed) is))
           go level.AllBut is =

@@ -1,6 +1,7 @@
 -- Users that are one step from what is found, aim by aim, and their marks.
 use Rattle.std.proofs.Common.{[], ◌∷◌}
-use Rattle.std.proofs.Common.{◌≡◌, ◌<◌, ◌≤◌, ◌∙◌, ◌+◌, ◌⊎◌, ◌&&◌, ◌||◌, ◌==◌, ℕ, Bool, true, false, not, cond, List, ◌++◌, ap, arith, get_or, length}
+use Rattle.std.proofs.Common.{◌≡◌, ◌<◌, ◌≤◌, ◌∙◌, ◌+◌, ◌⊎◌, ◌&&◌, ◌||◌, ◌==◌, ℕ, Bool, true}
+use Rattle.std.proofs.Common.{false, not, cond, List, ◌++◌, ap, arith, get_or, length}
 use Rattle.std.proofs.Common.{Option, inl, inr, map, refl, set, subst, sym, take}
 use Rattle.std.specs.Prelude.{All, filter, nat_lt}
 use Rattle.std.specs.List.{Contains}
@@ -81,7 +82,8 @@ mark-next marks new found n d within more so_far =
 
 -- where each state that is near has its user marked, the users are
 pub near-marked :
-    (h : HostSteps) (target : ℕ) (l : Level) (starts : List (Option ℕ)) (found near : List Found) (marks : List Bool) → AreNearTo h target l starts found near →
+    (h : HostSteps) (target : ℕ) (l : Level) (starts : List (Option ℕ)) (found near : List Found) (marks : List Bool) →
+    AreNearTo h target l starts found near →
     AreMarked marks near → AreNear h target l starts found marks
 near-marked h target l starts found near marks are marked_all =
     All-weaker Near Marked (λ c is. go c is) (filter (is_left h (any_sought target) starts) h.candidates.now) are
@@ -170,7 +172,8 @@ module _
         one : (c : Candidate) → All (λ f. is_at_least l (step_on h c.state f.state).level ≡ false) (take n found)
             × (not (reaches h aim c) ≡ true) → All (λ f. is_at_least l (step_on h c.state f.state).level ≡ false) (take (n + 1) found)
         one c both =
-            subst (All (λ f. is_at_least l (step_on h c.state f.state).level ≡ false)) (sym (take-more found n f within (same-there found n d f within)))
+            subst (All (λ f. is_at_least l (step_on h c.state f.state).level
+            ≡ false)) (sym (take-more found n f within (same-there found n d f within)))
             (All-push (λ f. is_at_least l (step_on h c.state f.state).level ≡ false) (take n found) f both.0
             (ap (λ t. is_at_least l (step_on h c.state t).level) at ∙ not-true (reaches h aim c) both.1))
 
@@ -179,7 +182,8 @@ module _
 
 -- after the last aim
 pub near-all :
-    (h : HostSteps) (target : ℕ) (l : Level) (starts : List (Option ℕ)) (found near : List Found) (left : List Candidate) (n : ℕ) → length found ≤ n →
+    (h : HostSteps) (target : ℕ) (l : Level) (starts : List (Option ℕ)) (found near : List Found) (left : List Candidate) (n : ℕ) →
+    length found ≤ n →
     AreParted (filter (is_left h (any_sought target) starts) h.candidates.now) near left → AreFar h l (take n found) left →
     AreNearTo h target l starts found near
 near-all h target l starts found near left n all parted far =
@@ -202,7 +206,8 @@ pub filtered-within : {X : Type 0} (p q : X → Bool) → ((x : X) → p x ≡ t
 filtered-within {X} p q within [] = refl
 filtered-within {X} p q within (x ∷ xs) = go (filtered-within p q within xs) (p x) refl (q x) refl
   where
-    go : filter p (filter q xs) ≡ filter p xs → (a : Bool) → p x ≡ a → (b : Bool) → q x ≡ b → filter p (cond (q x) (x ∷ filter q xs) (filter q xs)) ≡ filter p (x ∷ xs)
+    go : filter p (filter q xs) ≡ filter p xs → (a : Bool) → p x ≡ a → (b : Bool) → q x ≡ b →
+        filter p (cond (q x) (x ∷ filter q xs) (filter q xs)) ≡ filter p (x ∷ xs)
     go rest a is true passes =
         ap (λ b. filter p (cond b (x ∷ filter q xs) (filter q xs))) passes
         ∙ ap (λ ys. cond (p x) (x ∷ ys) ys) rest

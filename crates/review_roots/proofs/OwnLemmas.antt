@@ -207,7 +207,8 @@ module _ (h : HostSteps) (target user : ℕ) where
       turn-near : (x y : State) → IsTurn l x y → Contains (found_states near) x
       turn-near x y turn =
           go (All-contains (λ s. Contains (found_states (goals-of)) s ⊎ (Contains (states_of left-of) s
-          ⊎ IsStuck (kept_steps h any_q) l s)) h.states.now x (start-of h any_q l enough starts goals-of left-of chainless refl refl).covered
+          ⊎ IsStuck (kept_steps h any_q) l s)) h.states.now x
+          (start-of h any_q l enough starts goals-of left-of chainless refl refl).covered
           turn.inside)
         where
           goals-of : List Found

@@ -130,7 +130,8 @@ module _ (h : HostSteps) (q : Sought) (k : Level) (asked : is_at_least h.least k
       go : {n : ℕ} {s : State} → Path g l n s → IsMute g h.least s → ⊥
       go (here {s} c at) mute = let away : g.goal s ≡ false = mute.0 in cc
       go (more {n} {s} {t} c step rest) mute =
-          let none : is_at_least l (g.level s t) ≡ false = mute.1 t l (at-least-trans h.least k l asked above) in absurd (let bad : true ≡ false = sym step ∙ none in cc)
+          let none : is_at_least l (g.level s t) ≡ false = mute.1 t l (at-least-trans h.least k l asked above) in absurd
+          (let bad : true ≡ false = sym step ∙ none in cc)
 
   -- ---- No chain of the steps that count leads from a user with no chain of any steps
 
@@ -156,7 +157,8 @@ module _ (h : HostSteps) (q : Sought) (k : Level) (asked : is_at_least h.least k
       here (All-contains (Contains (any_steps h q.target).states) h.states.now s (host-keeps h).inside c) at
   any-path l above (more {n} {s} {t} c step rest) =
       more (All-contains (Contains (any_steps h q.target).states) h.states.now s (host-keeps h).inside c)
-      (counted-any l q.counted s.user (step_given h.checked.now h.directory.now h.host.now h.groups.now s t) above step) (any-path l above rest)
+      (counted-any l q.counted s.user (step_given h.checked.now h.directory.now h.host.now h.groups.now s t) above step)
+      (any-path l above rest)
 
   chainless-stuck : (s : State) → HasNoPath (any_steps h q.target) k s → IsStuck g k s
   chainless-stuck s none l above n p = none n (any-path l above p)

@@ -1,5 +1,6 @@
 -- The chain of a found state leads to the goal, and its steps ask for the passwords that are named.
-use Rattle.std.proofs.Common.{◌≡◌, ◌∙◌, ◌+◌, ◌⊎◌, ◌||◌, ℕ, Bool, true, false, List, [], ◌∷◌, ◌++◌, ap, append-nil, append_assoc, inl, inr, refl}
+use Rattle.std.proofs.Common.{◌≡◌, ◌∙◌, ◌+◌, ◌⊎◌, ◌||◌, ℕ, Bool, true, false, List, []}
+use Rattle.std.proofs.Common.{◌∷◌, ◌++◌, ap, append-nil, append_assoc, inl, inr, refl}
 use Rattle.std.proofs.Common.{arith, length, length-append, sym, subst}
 use Rattle.std.proofs.Common.{Some, None}
 use Rattle.std.specs.Prelude.{slice_get}

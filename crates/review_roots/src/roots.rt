@@ -361,7 +361,8 @@ fn root_of(
 ///
 /// The chain that is given has the best level of all from the user, however long. Of those of that level none asks for less: it asks
 /// for no password, if one does not; otherwise its steps may go without, if those of one may; otherwise it asks for the user's own
-/// alone, if one does. Of those of that level that ask for no more none has fewer steps. From a user that is not among them no chain of the least level leads to the target, however long.
+/// alone, if one does. Of those of that level that ask for no more none has fewer steps. From a user that is not among them no chain
+/// of the least level leads to the target, however long.
 ///
 /// Returns `AllocError` if allocation fails.
 pub fn roots_on(

@@ -15,6 +15,7 @@ returns-in-Some c =
     IfOk-weaker c.is_reached_by.result _ _
     (λ is far e same. record {
       added = λ none. let bad = sym none ∙ c.in-Some.is in cc;
-      none = All-map (λ k. is_at_least c.args.level (level_for (counted.Own c.args.user) k.state.user (step_on h k.state c.args.state)) ≡ false)
+      none = All-map (λ k. is_at_least c.args.level (level_for (counted.Own c.args.user) k.state.user
+          (step_on h k.state c.args.state)) ≡ false)
           (λ (k : Bor Candidate). k.now) c.args.asking.now (far e);
     }) c.is_reached_by.ensures

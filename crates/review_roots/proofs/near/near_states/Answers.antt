@@ -32,11 +32,13 @@ loop-index-preserved c =
     let candidates = subst (λ (xs : List (Bor Candidate)). All (IsCandidate h) (map (λ c. c.now) xs)) same
     c.loop-index.invariant.candidates in
     let parted = subst (λ (xs : List (Bor Candidate)). AreParted all near (map (λ c. c.now) xs)) same c.loop-index.invariant.parted in
-    let far = subst (λ (xs : List (Bor Candidate)). AreFar h c.args.level (take n found) (map (λ c. c.now) xs)) same c.loop-index.invariant.far in
+    let far = subst (λ (xs : List (Bor Candidate)). AreFar h c.args.level (take n found) (map
+    (λ c. c.now) xs)) same c.loop-index.invariant.far in
     record {
       candidates = near-candidates h c.args.level n _ near new cs kept c.in_ok-left-2.ensures.found c.in_ok-left-2.ensures.kept candidates;
       parted = parted-more h c.args.level n _ near new cs kept c.in_ok-left-2.ensures.found c.in_ok-left-2.ensures.kept all parted;
-      far = far-more h c.args.level n _ near new cs kept c.in_ok-left-2.ensures.found c.in_ok-left-2.ensures.kept found _ c.loop-index-test.true refl
+      far = far-more h c.args.level n _ near new cs kept c.in_ok-left-2.ensures.found c.in_ok-left-2.ensures.kept found _
+          c.loop-index-test.true refl
           far;
     }
 

@@ -28,5 +28,6 @@ returns-in-None c =
     let at = subst (λ (xs : List Found). IsFoundAt xs user None) c.deref.ensures.value c.in-None.ensures in
     way-any h c.args.target c.args.level c.requires.enough user c.requires.known c.requires.best c.args.way c.requires.level c.requires.free
     c.requires.unasked
-    (inr (none-of h c.args.target c.args.level c.requires.enough user c.requires.known q c.in_ok-own.own.items c.in_ok-own.ensures.found at))
+    (inr (none-of h c.args.target c.args.level c.requires.enough user c.requires.known q c.in_ok-own.own.items
+    c.in_ok-own.ensures.found at))
     c.requires.way
