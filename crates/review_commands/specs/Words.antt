@@ -51,10 +51,14 @@ abbrev pub who_app : App
 who_app = with_rule (with_rule (with_rule (paths_app (codes "who")) (required_option (codes "command")))
     (name_rule (codes "arguments"))) (name_rule (codes "runas"))
 
+-- compare OLD NEW [--netgroups F]
+abbrev pub policies_app : App
+policies_app = with_rule (with_rule (with_rule (new_app (codes "compare")) (required_word (codes "old"))) (required_word (codes "new")))
+    netgroups_rule
+
 -- compare OLD NEW [--netgroups F] --users F --hosts F
 abbrev pub pair_app : App
-pair_app = with_rule (with_rule (with_rule (with_rule (with_rule (new_app (codes "compare")) (required_word (codes "old")))
-    (required_word (codes "new"))) netgroups_rule) (required_option (codes "users"))) (required_option (codes "hosts"))
+pair_app = with_rule (with_rule policies_app (required_option (codes "users"))) (required_option (codes "hosts"))
 
 -- --requests NAME=PATH, any number of times
 abbrev pub requests_rule : Rule

@@ -3,7 +3,8 @@ ghost use Rattle.std.specs.Prelude.{◌≡◌, IfOk, codes, false};
 ghost use Rattle.clap.specs.Words.{app_of, rule_of};
 ghost use Rattle.clap.specs.declared.builder.command.Command.TheViews.{out-Command as fields_of};
 ghost use Rattle.review_commands.specs.Words.{all_rule, cautions_app, compare_app, grants_app, judging_app, name_rule, netgroups_rule};
-ghost use Rattle.review_commands.specs.Words.{named_app, pair_app, paths_app, policy_app, program_app, requests_rule, root_rule, roots_app};
+ghost use Rattle.review_commands.specs.Words.{named_app, pair_app, paths_app, policies_app, policy_app, program_app, requests_rule};
+ghost use Rattle.review_commands.specs.Words.{root_rule, roots_app};
 ghost use Rattle.review_commands.specs.Words.{who_app, without_rule};
 
 use clap::{Arg, ArgAction, Command};
@@ -173,16 +174,24 @@ fn report<'a>(alloc: Global) -> Result<Command<'a>, AllocError>
         .arg(senders_words(alloc))
 }
 
-// Returns `compare OLD NEW [--netgroups F] --users F --hosts F`.
-fn pair<'a>(alloc: Global) -> Result<Command<'a>, AllocError>
-    ensures app { IfOk result (λ c. app_of c ≡ pair_app) }
+// Returns `compare OLD NEW [--netgroups F]`.
+fn policies<'a>(alloc: Global) -> Result<Command<'a>, AllocError>
+    ensures app { IfOk result (λ c. app_of c ≡ policies_app) }
     ensures local { IfOk result (λ c. (fields_of c).has_globals ≡ false) }
 {
     Command::new(alloc, "compare")
         .about("Lists what a change of a policy does, for every command")
         .arg(word(alloc, "old", "The main file of the policy before"))?
         .arg(word(alloc, "new", "The main file of the policy after"))?
-        .arg(netgroups(alloc))?
+        .arg(netgroups(alloc))
+}
+
+// Returns `compare OLD NEW [--netgroups F] --users F --hosts F`.
+fn pair<'a>(alloc: Global) -> Result<Command<'a>, AllocError>
+    ensures app { IfOk result (λ c. app_of c ≡ pair_app) }
+    ensures local { IfOk result (λ c. (fields_of c).has_globals ≡ false) }
+{
+    policies(alloc)?
         .arg(path_option(alloc, "users", "The known users, as CSV"))?
         .arg(path_option(alloc, "hosts", "The known hosts, as CSV"))
 }

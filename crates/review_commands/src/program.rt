@@ -162,16 +162,21 @@ fn run_cautions(
 
 // Lists the grants of a policy, and returns the exit status.
 fn run_grants(rt: &HostRuntime, paths: Paths<'_>, names: ScopeNames<'_>) -> u8 {
-    let mut files = match command_files(rt, paths, &[]) {
+    let CommandFiles { mut policy, opened } = match command_files(rt, paths, &[]) {
         Ok(files) => files,
         Err(status) => return status,
     };
+    let OpenedFiles {
+        mut users,
+        mut hosts,
+        ..
+    } = opened;
     grants_run(
         rt.alloc(),
         paths.policy.file.as_bytes(),
-        &mut files.policy,
-        &mut files.opened.users,
-        &mut files.opened.hosts,
+        &mut policy,
+        &mut users,
+        &mut hosts,
         names,
         &mut Device::new(rt.stdout()),
         &mut Device::new(rt.stderr()),
@@ -180,16 +185,21 @@ fn run_grants(rt: &HostRuntime, paths: Paths<'_>, names: ScopeNames<'_>) -> u8 {
 
 // Lists who may run a command under a policy, and returns the exit status.
 fn run_who(rt: &HostRuntime, paths: Paths<'_>, sought: Sought<'_>) -> u8 {
-    let mut files = match command_files(rt, paths, &[]) {
+    let CommandFiles { mut policy, opened } = match command_files(rt, paths, &[]) {
         Ok(files) => files,
         Err(status) => return status,
     };
+    let OpenedFiles {
+        mut users,
+        mut hosts,
+        ..
+    } = opened;
     who_run(
         rt.alloc(),
         paths.policy.file.as_bytes(),
-        &mut files.policy,
-        &mut files.opened.users,
-        &mut files.opened.hosts,
+        &mut policy,
+        &mut users,
+        &mut hosts,
         sought,
         &mut Device::new(rt.stdout()),
         &mut Device::new(rt.stderr()),
@@ -198,16 +208,21 @@ fn run_who(rt: &HostRuntime, paths: Paths<'_>, sought: Sought<'_>) -> u8 {
 
 // Lists who can become root under a policy, and returns the exit status.
 fn run_roots(rt: &HostRuntime, paths: Paths<'_>, all: bool) -> u8 {
-    let mut files = match command_files(rt, paths, &[]) {
+    let CommandFiles { mut policy, opened } = match command_files(rt, paths, &[]) {
         Ok(files) => files,
         Err(status) => return status,
     };
+    let OpenedFiles {
+        mut users,
+        mut hosts,
+        ..
+    } = opened;
     roots_run(
         rt.alloc(),
         paths.policy.file.as_bytes(),
-        &mut files.policy,
-        &mut files.opened.users,
-        &mut files.opened.hosts,
+        &mut policy,
+        &mut users,
+        &mut hosts,
         all,
         &mut Device::new(rt.stdout()),
         &mut Device::new(rt.stderr()),
@@ -216,16 +231,21 @@ fn run_roots(rt: &HostRuntime, paths: Paths<'_>, all: bool) -> u8 {
 
 // Lists what of a policy reaches nobody, and returns the exit status.
 fn run_subjects(rt: &HostRuntime, paths: Paths<'_>) -> u8 {
-    let mut files = match command_files(rt, paths, &[]) {
+    let CommandFiles { mut policy, opened } = match command_files(rt, paths, &[]) {
         Ok(files) => files,
         Err(status) => return status,
     };
+    let OpenedFiles {
+        mut users,
+        mut hosts,
+        ..
+    } = opened;
     subjects_run(
         rt.alloc(),
         paths.policy.file.as_bytes(),
-        &mut files.policy,
-        &mut files.opened.users,
-        &mut files.opened.hosts,
+        &mut policy,
+        &mut users,
+        &mut hosts,
         &mut Device::new(rt.stdout()),
         &mut Device::new(rt.stderr()),
     )
@@ -237,7 +257,11 @@ fn run_compare(rt: &HostRuntime, paths: PairPaths<'_>, names: ScopeNames<'_>) ->
         Ok(pair) => pair,
         Err(fault) => return refused(rt, fault),
     };
-    let mut opened = match opened_files(rt, paths.users, paths.hosts, &[]) {
+    let OpenedFiles {
+        mut users,
+        mut hosts,
+        ..
+    } = match opened_files(rt, paths.users, paths.hosts, &[]) {
         Ok(opened) => opened,
         Err(status) => return status,
     };
@@ -247,8 +271,8 @@ fn run_compare(rt: &HostRuntime, paths: PairPaths<'_>, names: ScopeNames<'_>) ->
         &mut before,
         paths.new.as_bytes(),
         &mut after,
-        &mut opened.users,
-        &mut opened.hosts,
+        &mut users,
+        &mut hosts,
         names,
         &mut Device::new(rt.stdout()),
         &mut Device::new(rt.stderr()),

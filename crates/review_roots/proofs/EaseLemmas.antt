@@ -2,7 +2,7 @@
 use Rattle.std.proofs.Common.{◌≡◌, ◌<◌, ◌≤◌, ◌∙◌, ◌⊎◌, ◌&&◌, ◌||◌, ◌==◌, ℕ, Bool, true, false, cond, List, [], ◌∷◌, ap, arith, inl, inr}
 use Rattle.std.proofs.Common.{Option, Some, None}
 use Rattle.std.proofs.Common.{length, refl, subst, sym}
-use Rattle.std.specs.Prelude.{is_some, slice_get}
+use Rattle.std.specs.Prelude.{is_some, min, slice_get}
 use Rattle.std.specs.List.{Contains}
 use Rattle.std.proofs.lemmas.Bool.{cases_lt}
 use Rattle.sudo_grammar.specs.declared.policy.Policy.{Policy}
@@ -27,7 +27,7 @@ use Rattle.review_roots.specs.Levels.{target_rows}
 use Rattle.review_roots.specs.Ranks.{is_at_least}
 use Rattle.review_roots.specs.Sought.{any_steps, free_steps, own_steps, unasked_steps}
 use Rattle.review_roots.specs.States.{given_between, group_at, level_for, person_of, steps_to}
-use Rattle.review_roots.specs.Ways.{IsLeading, password_along, password_rank, step_on, step_password, worse}
+use Rattle.review_roots.specs.Ways.{IsLeading, adds_groups, password_along, password_cost, password_rank, step_on, step_password, worse}
 use Rattle.review_roots.proofs.ChainLemmas.{chains-are-paths}
 use Rattle.review_roots.proofs.PasswordLemmas.{free_is_unasked}
 use Rattle.review_roots.proofs.SearchLemmas.{at-least-trans}
@@ -331,3 +331,54 @@ module _ (h : HostSteps) (target : ℕ) (l : Level) where
   excludes-each s password.Own free unasked own = unasked
   excludes-each s password.Other free unasked (inl most) = absurd (omega (arith, most))
   excludes-each s password.Other free unasked (inr own) = own
+
+-- ---- What passwords cost on a host
+
+min-two : (a b : ℕ) → a ≤ b → min a 2 ≤ min b 2
+min-two a b less = omega (arith, less)
+
+pub costs-more : (h : HostSteps) (p q : Password) → password_rank p ≤ password_rank q → password_cost h p ≤ password_cost h q
+costs-more h p q less = by (adds_groups h)
+  where
+    by : (b : Bool) → cond b (min (password_rank p) 2) (password_rank p) ≤ cond b (min (password_rank q) 2) (password_rank q)
+    by true = min-two (password_rank p) (password_rank q) less
+    by false = less
+
+pub costs-own : (h : HostSteps) → adds_groups h ≡ true → (p q : Password) → 2 ≤ password_rank q → password_cost h p ≤ password_cost h q
+costs-own h added p q own = by (adds_groups h) added
+  where
+    by : (b : Bool) → b ≡ true → cond b (min (password_rank p) 2) (password_rank p) ≤ cond b (min (password_rank q) 2) (password_rank q)
+    by true is = omega (arith, own)
+    by false is = cc
+
+-- what costs no more asks for no more, if own passwords are told from others where it matters
+abbrev pub IsTold : HostSteps → Counted → Type 0
+IsTold h (counted.Own owner) = adds_groups h ≡ false
+IsTold h _ = Unit {0}
+
+rank-most : (p : Password) → password_rank p ≤ 3
+rank-most password.None = omega arith
+rank-most password.Maybe = omega arith
+rank-most password.Own = omega arith
+rank-most password.Other = omega arith
+
+below-two : (h : HostSteps) (p q : Password) (n : ℕ) → n ≤ 1 → password_rank p ≤ n → password_cost h q ≤ password_cost h p
+    → password_rank q ≤ n
+below-two h p q n few most = by (adds_groups h)
+  where
+    by : (b : Bool) → cond b (min (password_rank q) 2) (password_rank q) ≤ cond b (min (password_rank p) 2) (password_rank p)
+        → password_rank q ≤ n
+    by true less = omega (arith, few, most, less)
+    by false less = omega (arith, most, less)
+
+pub told-most : (h : HostSteps) (k : Counted) → IsTold h k → (p q : Password) → password_rank p ≤ most_of k
+    → password_cost h q ≤ password_cost h p → password_rank q ≤ most_of k
+told-most h counted.Any told p q most less = rank-most q
+told-most h counted.Unasked told p q most less = below-two h p q 1 (omega arith) most less
+told-most h counted.Free told p q most less = below-two h p q 0 (omega arith) most less
+told-most h (counted.Own owner) told p q most less = by (adds_groups h) told less
+  where
+    by : (b : Bool) → b ≡ false → cond b (min (password_rank q) 2) (password_rank q) ≤ cond b (min (password_rank p) 2) (password_rank p)
+        → password_rank q ≤ 2
+    by true is less = cc
+    by false is less = omega (arith, most, less)

@@ -23,10 +23,12 @@ use Rattle.review_roots.specs.Body.Found.{AreFound, AreLevels, ChainsLead, IsBes
 use Rattle.review_roots.specs.Body.Found.{any_sought, found_states, lower_found}
 use Rattle.review_roots.specs.Ranks.{is_at_least, rank}
 use Rattle.review_roots.specs.States.{state_with}
-use Rattle.review_roots.specs.Ways.{IsChain, IsLeading, IsWay, password_rank}
+use Rattle.review_roots.specs.declared.way.Password.TheVariants as password
+use Rattle.review_roots.specs.Ways.{IsChain, IsLeading, IsWay, adds_groups, password_along, password_cost, password_rank}
 use Rattle.review_roots.proofs.ChainLemmas.{chains-are-paths}
 use Rattle.review_roots.proofs.EaseLemmas.{Excludes, IsOf, chain-asks-most, counted-leads, easiest-of, little-leads, most_of}
 use Rattle.review_roots.proofs.EaseLemmas.{excludes-each, excludes-none, excludes-some}
+use Rattle.review_roots.proofs.EaseLemmas.{IsTold, costs-more, costs-own, told-most}
 use Rattle.review_roots.proofs.KeptLemmas.{host-keeps}
 use Rattle.review_roots.proofs.OwnLemmas.{own-none, unentered-none}
 use Rattle.review_roots.proofs.PathLemmas.{no-root, starts-chainless}
@@ -73,10 +75,11 @@ module _
           subst (λ p. password_rank p ≤ most_of k) (sym is.password)
           (chain-asks-most h target l listed-too k user of start w.chain.items (leads-at k is))
 
-      -- a chain of steps that count is the one that is sought, where none of its level asks for less
-      way-by : (k : Counted) → IsOf k user → IsChain h (record { target = target; counted = k }) start w →
-          Excludes h target l start w.password → IsWay h target h.least start w
-      way-by k of is excludes = record {
+      -- a chain of steps that count is the one that is sought, where none of its level costs less
+      way-with : (k : Counted) → IsOf k user → IsTold h k → IsChain h (record { target = target; counted = k }) start w →
+          ((ts : List State) → IsLeading h target l start ts
+          → password_cost h w.password ≤ password_cost h (password_along h user start ts)) → IsWay h target h.least start w
+      way-with k of told is easy = record {
         inside = is.inside;
         leads = subst (λ m. LeadsAlong (any_steps h target) m start w.chain.items) (sym leveled)
             (counted-leads h target l listed-too k start w.chain.items (leads-at k is));
@@ -85,14 +88,15 @@ module _
         by = is.by;
         password = is.password;
         marks = is.marks;
-        easiest = λ ts leading. easiest-of h target l start w.password start-state excludes ts (leading-at ts leading);
+        easiest = λ ts leading. easy ts (leading-at ts leading);
         shortest = λ ts leading less.
             let leading' = leading-at ts leading in
             let most = asks-most k of is in
             is.shortest (length ts)
             (subst (λ m. Path (steps_of h (record { target = target; counted = k })) m (length ts) start) (sym leveled)
             (chains-are-paths State (steps_of h (record { target = target; counted = k })) l start ts start-state leading'.inside
-            (little-leads h target l k user of start ts leading'.leads (omega (arith, less, most)))));
+            (little-leads h target l k user of start ts leading'.leads
+            (told-most h k told w.password (password_along h user start ts) most less))));
       }
         where
           most : (m : Level) → HasPath (any_steps h target) m start → (rank l < rank m) ⊎ (rank m ≤ rank l) → is_at_least m l ≡ true
@@ -102,20 +106,27 @@ module _
           leading-at : (ts : List State) → IsLeading h target w.level start ts → IsLeading h target l start ts
           leading-at ts leading = subst (λ m. IsLeading h target m start ts) leveled leading
 
+      -- where none of its level asks for less
+      way-by : (k : Counted) → IsOf k user → IsTold h k → IsChain h (record { target = target; counted = k }) start w →
+          Excludes h target l start w.password → IsWay h target h.least start w
+      way-by k of told is excludes = way-with k of told is
+          (λ ts leading. costs-more h w.password (password_along h user start ts)
+          (easiest-of h target l start w.password start-state excludes ts leading))
+
       pub way-free : IsChain h (record { target = target; counted = counted.Free }) start w → IsWay h target h.least start w
-      way-free is = way-by counted.Free tt is (excludes-none h target l start w.password (asks-most counted.Free tt is))
+      way-free is = way-by counted.Free tt tt is (excludes-none h target l start w.password (asks-most counted.Free tt is))
 
       pub way-unasked :
           HasNoPath (free_steps h target) l start → IsChain h (record { target = target; counted = counted.Unasked }) start w →
           IsWay h target h.least start w
       way-unasked free is =
-          way-by counted.Unasked tt is (excludes-some h target l start w.password free (asks-most counted.Unasked tt is))
+          way-by counted.Unasked tt tt is (excludes-some h target l start w.password free (asks-most counted.Unasked tt is))
 
       pub way-own :
-          HasNoPath (free_steps h target) l start → HasNoPath (unasked_steps h target) l start →
+          adds_groups h ≡ false → HasNoPath (free_steps h target) l start → HasNoPath (unasked_steps h target) l start →
           IsChain h (record { target = target; counted = counted.Own user }) start w → IsWay h target h.least start w
-      way-own free unasked is =
-          way-by (counted.Own user) refl is
+      way-own alone free unasked is =
+          way-by (counted.Own user) refl alone is
           (excludes-each h target l start w.password free unasked (inl (asks-most (counted.Own user) refl is)))
 
       -- a chain of any steps that asks for nobody else's, or where each does
@@ -123,7 +134,15 @@ module _
           HasNoPath (free_steps h target) l start → HasNoPath (unasked_steps h target) l start →
           (password_rank w.password ≤ 2) ⊎ HasNoPath (own_steps h target user) l start → IsChain h (any_sought target) start w →
           IsWay h target h.least start w
-      way-any free unasked own is = way-by counted.Any tt is (excludes-each h target l start w.password free unasked own)
+      way-any free unasked own is = way-by counted.Any tt tt is (excludes-each h target l start w.password free unasked own)
+
+      -- a chain of any steps where groups may be added, and each asks for a password
+      pub way-added :
+          adds_groups h ≡ true → HasNoPath (unasked_steps h target) l start → IsChain h (any_sought target) start w →
+          IsWay h target h.least start w
+      way-added added unasked is = way-with counted.Any tt tt is
+          (λ ts leading. costs-own h added w.password (password_along h user start ts)
+          (easiest-of h target l start password.Own start-state unasked ts leading))
 
     -- no chain asks for nobody else's, where the user is not marked
     pub none-marked :

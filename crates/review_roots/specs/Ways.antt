@@ -1,6 +1,6 @@
 -- A chain of steps to a target: its level, the row that allows its first step, and whose passwords it asks for.
 -- sudo(8), sudoers(5), "Tag_Spec": a password is asked unless NOPASSWD is in force.
-use Rattle.std.specs.Prelude.{◌≡◌, ◌≤◌, ℕ, true, ◌==◌, if◌then◌else◌, List, [], ◌∷◌, All, Option, None, codes, length}
+use Rattle.std.specs.Prelude.{◌≡◌, ◌≤◌, ℕ, Bool, min, nat_lt, true, ◌==◌, if◌then◌else◌, List, [], ◌∷◌, All, Option, None, codes, length}
 use Rattle.std.specs.List.{Contains}
 use Rattle.review_grants.specs.declared.marks.Marks.{Marks}
 use Rattle.review_grants.specs.Depends.{joined_marks, unmarked}
@@ -66,6 +66,14 @@ password_rank password.Maybe = 1
 password_rank password.Own = 2
 password_rank password.Other = 3
 
+-- groups may be added on the way
+abbrev pub adds_groups : HostSteps → Bool
+adds_groups h = nat_lt 0 (length h.groups.now)
+
+-- the same on a host: where groups may be added, one's own password counts as another's
+abbrev pub password_cost : HostSteps → Password → ℕ
+password_cost h p = if adds_groups h then min (password_rank p) 2 else password_rank p
+
 -- the chain leads from the state to the target through states; each of its steps has the level or a better one
 pub record IsLeading (h : HostSteps) (target : ℕ) (l : Level) (s : State) (ts : List State) : Type 0 where
   pub inside : All (Contains (any_steps h target).states) ts
@@ -93,6 +101,6 @@ pub record IsWay (h : HostSteps) (target : ℕ) (least : Level) (s : State) (w :
   pub password : w.password ≡ password_along h s.user s w.chain.items
   pub marks : w.marks ≡ marks_along h s w.chain.items
   pub easiest : (ts : List State) → IsLeading h target w.level s ts
-      → password_rank w.password ≤ password_rank (password_along h s.user s ts)
+      → password_cost h w.password ≤ password_cost h (password_along h s.user s ts)
   pub shortest : (ts : List State) → IsLeading h target w.level s ts
-      → password_rank (password_along h s.user s ts) ≤ password_rank w.password → length w.chain.items ≤ length ts
+      → password_cost h (password_along h s.user s ts) ≤ password_cost h w.password → length w.chain.items ≤ length ts

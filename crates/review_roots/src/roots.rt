@@ -1,10 +1,10 @@
 //! Who can become a target on a host.
-ghost use Rattle.std.specs.Prelude.{◌≡◌, ◌<◌, IfOk, IsTrue, MatchOption, Some, None, get_or, length, true};
+ghost use Rattle.std.specs.Prelude.{◌≡◌, ◌<◌, IfOk, IsTrue, MatchOption, Some, None, false, get_or, length, true};
 ghost use Rattle.review_roots.specs.Chains.{HasNoPath};
 ghost use Rattle.review_roots.specs.Ranks.{is_at_least};
 ghost use Rattle.review_roots.specs.Sought.{any_steps, free_steps, unasked_steps};
 ghost use Rattle.review_roots.specs.States.{state_with};
-ghost use Rattle.review_roots.specs.Ways.{IsChain, IsWay};
+ghost use Rattle.review_roots.specs.Ways.{IsChain, IsWay, adds_groups as spec_adds_groups};
 ghost use Rattle.review_roots.specs.Body.Found.{AreLevels, ChainsLead, IsBest, IsFoundAt, any_sought, is_start};
 ghost use Rattle.review_roots.specs.Roots.{AreRoots, IsRootAt, IsNoRoot, has_zero};
 ghost use Rattle.review_roots.specs.declared.chains.Chains.{Chains as TheChains};
@@ -59,6 +59,13 @@ fn start_index(found: &[Found], user: usize) -> Option<usize>
     None
 }
 
+// Whether groups may be added on the way.
+fn adds_groups(steps: &HostSteps<'_, '_>) -> bool
+    ensures { result ≡ spec_adds_groups steps.now }
+{
+    steps.groups.len() > 0
+}
+
 // Returns a chain from the user of the level that asks for nobody else's password, or else this one.
 fn own_way(
     alloc: Global,
@@ -72,6 +79,7 @@ fn own_way(
     requires lead { ChainsLead steps.now target level chains.now }
     requires wanted { get_or chains.now.wanted.items user true ≡ true }
     requires known { user < length steps.now.directory.now.people }
+    requires alone { spec_adds_groups steps.now ≡ false }
     requires best { IsBest steps.now target level user }
     requires free { HasNoPath (free_steps steps.now target) level (state_with None user) }
     requires unasked { HasNoPath (unasked_steps steps.now target) level (state_with None user) }
@@ -102,6 +110,7 @@ fn plain_way(
 ) -> Result<Way, AllocError>
     requires enough { IsTrue (is_at_least steps.now.least level) }
     requires known { user < length steps.now.directory.now.people }
+    requires alone { spec_adds_groups steps.now ≡ false }
     requires best { IsBest steps.now target level user }
     requires free { HasNoPath (free_steps steps.now target) level (state_with None user) }
     requires unasked { HasNoPath (unasked_steps steps.now target) level (state_with None user) }
@@ -135,6 +144,7 @@ fn turning_way(
     requires wanted { get_or chains.now.wanted.items user true ≡ true }
     requires away { user ≡ target → ⊥ }
     requires known { user < length steps.now.directory.now.people }
+    requires alone { spec_adds_groups steps.now ≡ false }
     requires best { IsBest steps.now target level user }
     requires free { HasNoPath (free_steps steps.now target) level (state_with None user) }
     requires unasked { HasNoPath (unasked_steps steps.now target) level (state_with None user) }
@@ -179,6 +189,9 @@ fn asking_way(
 {
     let way = way_of(alloc, steps, level, &chains.any, index)?;
     if !way.password.is_other() {
+        return Ok(way);
+    }
+    if adds_groups(steps) {
         return Ok(way);
     }
     if !is_near(&chains.near, user) {

@@ -1,6 +1,6 @@
 use Rattle.std.proofs.Common.{◌∙◌, Bool, List, ap, get_or, inl, inr, sym, true}
 use Rattle.review_roots.specs.Body.Found.{any_sought}
-use Rattle.review_roots.proofs.FreeLemmas.{chosen, none-marked, way-any}
+use Rattle.review_roots.proofs.FreeLemmas.{chosen, none-marked, way-added, way-any}
 use Rattle.review_roots.proofs.roots.asking_way.Goals as goal
 
 pub turning_way-requires-clause-way : goal.turning_way-requires-clause-way
@@ -31,6 +31,15 @@ returns-then-not-is_near c =
     c.requires.lead c.requires.unasked
     (sym (ap (λ (marks : List Bool). get_or marks c.args.user true) c.deref-2.ensures.value) ∙ sym c.is_near.ensures
     ∙ c.if-not-is_near.true) c.requires.away))
+    (chosen c.args.steps.now c.args.target c.args.level c.requires.lead.level c.args.user c.requires.known (any_sought c.args.target)
+    c.deref.result.now c.args.chains.now.any.items c.args.index c.in_ok-way.way c.in_ok-way.ensures.1 c.deref.ensures.value
+    c.requires.lead.any c.requires.start)
+
+-- where groups may be added, one's own password counts as another's
+pub returns-then-adds_groups : goal.returns-then-adds_groups
+returns-then-adds_groups c =
+    way-added c.args.steps.now c.args.target c.args.level c.requires.lead.level c.args.user c.requires.known c.requires.best c.in_ok-way.way
+    c.in_ok-way.ensures.0 (sym c.adds_groups.ensures ∙ c.if-adds_groups.true) c.requires.unasked
     (chosen c.args.steps.now c.args.target c.args.level c.requires.lead.level c.args.user c.requires.known (any_sought c.args.target)
     c.deref.result.now c.args.chains.now.any.items c.args.index c.in_ok-way.way c.in_ok-way.ensures.1 c.deref.ensures.value
     c.requires.lead.any c.requires.start)

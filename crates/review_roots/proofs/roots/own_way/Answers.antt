@@ -17,7 +17,8 @@ returns-in-Some c =
     let at = subst (λ (xs : List Found). IsFoundAt xs user (Some c.in-Some.index)) c.deref-3.ensures.value c.in-Some.ensures in
     IfOk-weaker c.way_of.result _ _
     (λ w is.
-    way-own h c.args.target c.args.level c.requires.lead.level user c.requires.known c.requires.best w is.0 c.requires.free
+    way-own h c.args.target c.args.level c.requires.lead.level user c.requires.known c.requires.best w is.0
+    c.requires.alone c.requires.free
     c.requires.unasked
     (chosen h c.args.target c.args.level c.requires.lead.level user c.requires.known q c.deref-in-Some.result.now c.in_ok-own.own.items
     c.in-Some.index w is.1 c.deref-in-Some.ensures.value c.in_ok-own.ensures.found at))
