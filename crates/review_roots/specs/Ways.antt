@@ -91,7 +91,7 @@ pub record IsChain (h : HostSteps) (q : Sought) (s : State) (w : Way) : Type 0 w
 
 -- of all steps, the chain leads from the state to the target through states, with its level, which no chain betters and which is the
 -- least asked for or a better one; the row allows the first step, and the password and the notes are the chain's; no chain of its level,
--- however long, asks for less, and none of those that ask for no more has fewer steps
+-- however long, costs less, and none of those that cost no more has fewer steps
 pub record IsWay (h : HostSteps) (target : ℕ) (least : Level) (s : State) (w : Way) : Type 0 where
   pub inside : All (Contains (any_steps h target).states) w.chain.items
   pub leads : LeadsAlong (any_steps h target) w.level s w.chain.items
