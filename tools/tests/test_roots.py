@@ -110,11 +110,17 @@ def given_by(grants: list[Grant]) -> Given:
     return Given(level, 2 if set(kinds) == {False} else int(False in kinds), place, tags)
 
 
+def cost(password: str, policy: str) -> int:
+    """Returns the place of a password among `PASSWORDS`; one's own counts as another's where a runas has a list of groups."""
+    place = PASSWORDS.index(password)
+    return min(place, 2) if re.search(r"\([^)]*:", policy) else place
+
+
 class Host:
     """A policy on a host."""
 
     def __init__(self, policy: listing.Policy, host: str) -> None:
-        self.policy, self.host = policy, host
+        self.policy, self.host, self.text = policy, host, str(policy)
         self.grants = {state: list(self.grants_of(state)) for state in STATES}
         self.steps = {(one, other): self.step(one, other) for one in STATES for other in STATES}
 
@@ -176,13 +182,15 @@ class Host:
             count += 1
         return count if last else None
 
-    def best(self) -> dict[str, tuple[str, str, int]]:
-        """Returns of each user that leads to root the best level, the least password at that level, and the fewest steps then."""
-        best: dict[str, tuple[str, str, int]] = {}
+    def best(self) -> dict[str, tuple[str, int, int]]:
+        """Returns of each user that leads to root the best level, the least cost at that level, and the fewest steps then."""
+        best: dict[str, tuple[str, int, int]] = {}
         for level, most, user in itertools.product((1, 2, 3), (3, 2, 1, 0), GROUPS):
             count = self.distance(user, level, most)
-            if count:
-                best[user] = LEVELS[level], PASSWORDS[most], count
+            least = cost(PASSWORDS[most], self.text)
+            # A further password that costs no less is no reason for another chain.
+            if count and best.get(user, ("", 4))[:2] != (LEVELS[level], least):
+                best[user] = LEVELS[level], least, count
         return best
 
     def shown(self, row: Row) -> tuple[str, str, str, str, int]:
@@ -273,7 +281,7 @@ class Roots(Drawn):
             level, password, place, tags, count = host.shown(row)
             wanted = password if is_sure or password == "none" else "?"
             self.assertEqual(row[2:7], ("root", level, wanted, place, tags))
-            self.assertEqual((row.level, password, count), best[row.user])
+            self.assertEqual((row.level, cost(password, host.text), count), best[row.user])
 
     def seen(self, policy: listing.Policy, is_sure: bool) -> Iterator[str]:
         """Yields what there is in the table of a policy. Fails where it is not that of the second body."""
@@ -287,7 +295,8 @@ class Roots(Drawn):
 
     def bounded(self, noted: Noted) -> Iterator[str]:
         """Yields what each row depends on. Fails where a row says less than is so for one choice, or is not so for each."""
-        self.write("p", noted.whole())
+        whole = noted.whole()
+        self.write("p", whole)
         most = {(row.user, row.host): row for row in self.table("--all")}
         for text in noted.each():
             self.write("p", text)
@@ -301,10 +310,10 @@ class Roots(Drawn):
                     order = (*LEVELS, "root")
                     self.assertGreaterEqual(order.index(bound.level), order.index(row.level), (bound, row, text))
                     if bound.level == row.level:
-                        least = PASSWORDS.index(bound.password)
-                        self.assertLessEqual(least, PASSWORDS.index(row.password), (bound, row, text))
+                        self.assertLessEqual(cost(bound.password, whole), cost(row.password, whole), (bound, row, text))
                 else:
-                    self.assertEqual((bound.level, bound.password), (row.level, row.password), (bound, row, text))
+                    self.assertEqual(bound.level, row.level, (bound, row, text))
+                    self.assertEqual(cost(bound.password, whole), cost(row.password, whole), (bound, row, text))
         yield from (row.depends for row in most.values())
 
     def test_what_is_noted_is_bounded(self) -> None:
