@@ -116,18 +116,17 @@ fn roots_and_times_become_notes(rt: HostRuntime) -> Result<(), Fail> {
 
 // Appends the value of a digest without its padding, and as many blanks as it has padding.
 fn push_note(digest: &str, text: &mut Seq<u8>) -> Result<(), AllocError> {
-    let mut blanks: u32 = 0;
     text.extend_from_slice(b"/d[z-a]")?;
     for byte in digest.as_bytes().iter().skip(7) {
-        if *byte == b'=' {
-            blanks += 1;
-        } else {
+        if *byte != b'=' {
             text.push(*byte)?;
         }
     }
     text.push(b',')?;
-    for _at in 0..blanks {
-        text.push(b' ')?;
+    for byte in digest.as_bytes() {
+        if *byte == b'=' {
+            text.push(b' ')?;
+        }
     }
     Ok(())
 }
