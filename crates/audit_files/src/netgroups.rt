@@ -15,7 +15,7 @@ use csv::ByteRecord;
 use std::alloc::{AllocError, Global};
 use sudo_text::Seq;
 
-/// A triple of a netgroup, without its domain. An empty host or user is any one, and `-` is none.
+/// A triple of a netgroup, without its domain. An empty field stands for any host or user, and `-` for none.
 #[derive(Debug, Drop, PartialEq, Eq)]
 pub struct Triple {
     pub netgroup: Seq<u8>,
@@ -172,12 +172,12 @@ fn triples_of_text(alloc: Global, text: &[u8]) -> Result<Vec<Triple>, FileFault>
 
 /// Reads a file of netgroups to its end, and returns their triples, in order.
 ///
-/// The header is `netgroup,host,user,domain`. A row has the name of a netgroup and one of its triples: an empty field is any
-/// host or user, and `-` is none. A host is a name of letters, digits, dots, hyphens and underscores, with a letter in it. The
-/// domain is not kept.
+/// The header is `netgroup,host,user,domain`. A row has the name of a netgroup and one of its triples: an empty field stands for
+/// any host or user, and `-` for none. The name of a host consists of letters, digits, dots, hyphens and underscores, at least one
+/// of them a letter. The domain is not kept.
 ///
 /// Returns `Header` if the header is another or missing. The first faulty record decides: returns `BadRow` if it has another
-/// number of fields, no netgroup or a host of another shape, or else `TooMany` if it is past 100,000 rows. Returns `TooMany`
+/// number of fields, no netgroup or an invalid host, and otherwise `TooMany` if it is past 100,000 rows. Returns `TooMany`
 /// also for more than 268,435,456 bytes, before any row is read, `Read` if a read failed, and `Memory` if allocation failed.
 pub fn read_netgroups<R: Feed>(alloc: Global, reader: &mut R) -> Result<Vec<Triple>, FileFault>
     ensures stated { IfOk result (λ list. IsRead triples (R.ahead reader.old) (Ok list.items)) }

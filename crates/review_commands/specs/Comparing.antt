@@ -106,8 +106,8 @@ pub record AreNamedDifferences (user host : Option (List ℕ)) (old new : Policy
   pub is_machine : looked_up (host_named d) host ≡ Some machine
   pub are : AreDifferenceRows person machine old new d text status
 
--- where the status is 0, both policies say the same to every command in each cell that is asked about, whatever is met of what is
--- noted
+-- where the status is 0, both policies say the same to every command in each cell that is asked about, whichever noted conditions
+-- hold
 abbrev pub QuietSaysSame : Type 0
 QuietSaysSame =
     (person : Option Person) (machine : Option Machine) (old new : Policy) (d : KnownRows) (text : List ℕ) (c : Cell) →

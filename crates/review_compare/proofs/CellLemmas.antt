@@ -165,7 +165,7 @@ lined-same k a e =
     ∙ ap (λ (before : List Atom). let l : Lined = record { before = before; atom = a.atom } in l)
     (commands-same k.before a.before both.1)
 
--- the tests are sound, whatever is met
+-- the tests are sound, whichever conditions hold
 pub simple-sound : (met : Choice) (c x : List ℕ) → AreSound simple_tests (fits_where met c x)
 simple-sound met c x = record {
   covers = covers;

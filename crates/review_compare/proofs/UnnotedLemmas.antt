@@ -1,4 +1,4 @@
--- Where nothing is noted, verdicts are the same whatever is met.
+-- Where nothing is noted, verdicts are the same whichever conditions hold.
 use Rattle.std.proofs.Common.{◌≡◌, ◌∙◌, ℕ, false, ◌||◌, List, [], ◌∷◌, ap, map, refl, sym, true}
 use Rattle.std.specs.Prelude.{filter}
 use Rattle.std.specs.List.{list_any}

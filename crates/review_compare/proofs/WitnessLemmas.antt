@@ -43,7 +43,7 @@ pub passed-by : (rs : List Ruled) (n m : ℕ) (r : Ruled) (met : Choice) (c x : 
 passed-by rs n m r met c x within next is out =
     from-end rs n m r met c x false within next is (ap (λ b. b && is_met met (lined_of (shown r))) out)
 
--- a row that fits applies whatever is met, if nothing is noted before it
+-- a row that fits applies whichever conditions hold, if nothing is noted before it
 pub answered-last : (rs : List Ruled) (n m : ℕ) (r : Ruled) (met : Choice) (c x : List ℕ) → n < length rs → m ≡ n + 1 →
     r ≡ get_or rs n r → command_fits r.shape.now.atom c x ≡ true → is_unnoted r.before.now ≡ true →
     verdict_among met (all_shown (take m rs)) c x ≡ answered_by r.place r.answer

@@ -125,7 +125,7 @@ change_of _ _ = answer.Other
 abbrev pub answer_between : Verdict → Verdict → Option Answer
 answer_between old new = if same_said (said old) (said new) then None else Some (change_of (allowed old) (allowed new))
 
--- whatever is met of what is noted, both policies say the same to every command of the cell, with any arguments: leave with the
+-- whichever noted conditions hold, both policies say the same to every command of the cell, with any arguments: leave with the
 -- same tags, a refusal, or nothing
 abbrev pub SaySame : Policy → Policy → Question → Type 0
 SaySame old new q = (met : Choice) (command arguments : List ℕ) →
@@ -140,7 +140,7 @@ ruling_by d = record { atom = lined_of d; answer = d.answer }
 abbrev pub same_lined : Lined → Lined → Bool
 same_lined k a = same_command k.atom a.atom && same_commands k.before a.before
 
--- the first command applies wherever the second does: nothing is noted before it, or what is before the second
+-- the first command applies wherever the second does: no note precedes it, or it is the same command behind the same ones
 abbrev pub covers_where : Lined → Lined → Bool
 covers_where k a = covers_simply k.atom a.atom && (is_unnoted k.before || same_lined k a)
 
@@ -156,16 +156,16 @@ abbrev pub RowsDecide : Type 0
 RowsDecide = (p : Policy) (q : Question) (command arguments : List ℕ) →
     verdict_on p (with_command q command arguments) ≡ verdict_where all_met p q command arguments
 
--- where no grant of a policy stands for a note, its verdicts are the same whatever is met
+-- where no grant of a policy stands for a note, its verdicts are the same whichever conditions hold
 abbrev pub NothingDepends : Type 0
 NothingDepends = (p : Policy) → list_any is_note_grant (grants p) ≡ false → (q : Question) (met : Choice) (command arguments : List ℕ) →
     verdict_where met p q command arguments ≡ verdict_on p (with_command q command arguments)
 
--- policies that say the same whatever is met do so where all is met: so do the verdicts on requests
+-- policies that say the same whichever noted conditions hold do so where all hold: so do the verdicts on requests
 abbrev pub RequestsAnsweredSame : Type 0
 RequestsAnsweredSame = (old new : Policy) (q : Question) → SaySame old new q → (command arguments : List ℕ) →
     said (verdict_on old (with_command q command arguments)) ≡ said (verdict_on new (with_command q command arguments))
 
--- rows that agree say the same to every command, whatever is met
+-- rows that agree say the same to every command, whichever noted conditions hold
 abbrev pub AgreeingRowsSaySame : Type 0
 AgreeingRowsSaySame = (old new : Policy) (q : Question) → rows_agree (deciders old q) (deciders new q) ≡ true → SaySame old new q

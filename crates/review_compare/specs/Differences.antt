@@ -69,7 +69,7 @@ abbrev pub SameIf : Policy → Policy → Option Question → Type 0
 SameIf old new None = Unit {0}
 SameIf old new (Some q) = SaySame old new q
 
--- both policies say the same to every command of the cell, whatever is met, or a row has it
+-- both policies say the same to every command of the cell, whichever noted conditions hold, or a row has it
 abbrev pub IsDone : Policy → Policy → KnownRows → List Group → List Row → Cell → Type 0
 IsDone old new d groups rows c = SameIf old new (question_at d groups c) ⊎ ((f : Compared) × Finds rows c f)
 
@@ -98,7 +98,8 @@ pub record IsAskedAbout (d : KnownRows) (groups : List Group) (user : Option Per
   pub is_host : is_host_if host (slice_get d.machines c.host) ≡ true
   pub is_ask : Contains (all_asks d groups) c.ask
 
--- what a row says is so in each of its cells; and in a cell without a row both policies say the same to every command, whatever is met
+-- what a row says is so in each of its cells; and in a cell without a row both policies say the same to every command, whichever
+-- noted conditions hold
 pub record AreDifferences (old new : Policy) (d : KnownRows) (groups : List Group) (user : Option Person) (host : Option Machine)
     (rows : List Row) : Type 0 where
   pub right : (c : Cell) (f : Compared) → Finds rows c f → IsFound old new d groups c f

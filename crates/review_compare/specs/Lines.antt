@@ -30,14 +30,15 @@ at_line l place = if same_place l.place place then l.atoms else []
 abbrev pub noted : List Atom → List Atom
 noted atoms = if list_any is_note_atom atoms then atoms else []
 
--- ---- What is met
+-- ---- Noted conditions
 
 -- a command with what stands before it in its line, where a note is among that
 pub record Lined : Type 0 where
   pub before : List Atom
   pub atom : Atom
 
--- which commands apply where they fit, by what stands before them: what sudo finds of the digests, the times and the roots
+-- which noted conditions hold: whether a command applies where it fits, by itself and by what stands before it in its line. sudo
+-- decides that by the digest of a file, the time and the root
 abbrev pub Choice : Type 0
 Choice = List Atom → Atom → Bool
 

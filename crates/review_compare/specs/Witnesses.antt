@@ -7,13 +7,13 @@ use Rattle.review_compare.specs.Cells.{Decider, answer_between, verdict_among}
 use Rattle.review_compare.specs.Compared.{said}
 use Rattle.review_compare.specs.Lines.{Choice}
 
--- a command, with both verdicts on it, whatever is met of what is noted; these do not say the same; and what the change does to it
+-- a command that the policies answer differently: the verdict of each, whichever noted conditions hold, and the kind of change
 pub record IsWitness (ds es : List Decider) (w : Witness) : Type 0 where
   pub old : (met : Choice) → w.old ≡ verdict_among met ds w.command w.arguments
   pub new : (met : Choice) → w.new ≡ verdict_among met es w.command w.arguments
   pub answer : answer_between w.old w.new ≡ Some w.answer
 
--- whatever is met, the last rows that apply say the same to every command, with any arguments
+-- whichever noted conditions hold, the last rows that apply say the same to every command, with any arguments
 abbrev pub RowsSaySame : List Decider → List Decider → Type 0
 RowsSaySame ds es = (met : Choice) (command arguments : List ℕ) →
     said (verdict_among met ds command arguments) ≡ said (verdict_among met es command arguments)

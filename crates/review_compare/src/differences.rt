@@ -401,8 +401,8 @@ fn compared_grants<'a>(
 
 /// Compares two policies in the cells of the users and hosts that are asked about: each target (none, and each known user) with
 /// each of the groups (none, and each of them). What a row says is so in each of its cells; in a cell without a row both
-/// policies say the same to every command, whatever is met of what is noted: a command that stands behind a note in its line may
-/// apply or not, and two of them do alike that are the same and have the same before them in their lines.
+/// policies say the same to every command, whichever noted conditions hold: a command that follows a note in its line may apply or
+/// not, and two equal commands that follow equal ones in their lines apply alike.
 ///
 /// Of cells that differ in the target alone, in the order of the known users, those of which the same is found are one row; and
 /// then rows that differ in the group alone, in the host alone, and in the user alone. Returns `AllocError` if allocation fails.

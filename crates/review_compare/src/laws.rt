@@ -33,20 +33,20 @@ pub fn policies_agree()
     ensures { PoliciesAgree }
 {}
 
-/// The verdict on a command is that of the last row for the target that fits it: the case in which all that is noted is met. Where
-/// nothing is noted, it is the verdict whatever is met.
+/// The verdict on a command is that of the last row for the target that fits it: the case in which all noted conditions hold. Where
+/// nothing is noted, it is the verdict in each case.
 pub fn rows_decide()
     ensures all_met { RowsDecide }
     ensures unnoted { NothingDepends }
 {}
 
-/// Where both policies say the same to a command whatever is met of what is noted, the verdicts on a request for it say the same.
+/// Where both policies say the same to a command whichever noted conditions hold, the verdicts on a request for it say the same.
 pub fn same_cells_answer_alike()
     ensures { RequestsAnsweredSame }
 {}
 
 /// Where the rows of two policies for a target agree by the tests that the program makes, both say the same to every command,
-/// whatever is met of what is noted.
+/// whichever noted conditions hold.
 pub fn agreeing_rows_say_same()
     ensures { AgreeingRowsSaySame }
 {}

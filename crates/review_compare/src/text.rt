@@ -496,7 +496,7 @@ fn text_with(
 
 /// Returns the table of the differences of two policies as CSV: the header
 /// `users,hosts,runas_user,runas_group,answer,command,arguments,old,old_place,old_tags,new,new_place,new_tags,depends`, then for
-/// each row a record for each command that both policies answer otherwise, whatever is met of what is noted; or one with the
+/// each row a record for each command that both policies answer otherwise, whichever noted conditions hold; or one with the
 /// answer `may` and the commands of the rows that may, where `depends` has the names of the notes of their lines.
 ///
 /// `users` and `hosts` are known ones, each as it would stand in a policy, and `ALL` where they are all; so are `runas_user` and

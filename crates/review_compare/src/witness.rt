@@ -10,7 +10,7 @@ use std::alloc::{AllocError, Global};
 use sudo_match::{Verdict, command_matches};
 use sudo_text::Seq;
 
-/// A command that two policies answer otherwise, with both verdicts, which hold whatever is met of what is noted.
+/// A command that two policies answer differently, with both verdicts, which depend on no noted condition.
 #[derive(Debug, Drop, PartialEq, Eq)]
 pub struct Witness {
     /// The command, by its path.
@@ -42,7 +42,7 @@ fn verdict_by(row: &Ruled<'_>) -> Option<Verdict>
     }
 }
 
-/// Returns the verdict of the last row that fits the command, if nothing is noted before that row: the verdict, whatever is met.
+/// Returns the verdict of the last row that fits the command, if no note precedes that row: then it depends on no noted condition.
 pub(crate) fn sure_verdict(rows: &[Ruled<'_>], command: &[u8], arguments: &[u8]) -> Option<Verdict>
     ensures { IfSome result (λ v. (met : Choice) → v
         ≡ cells.verdict_among met (body.all_shown rows.entry.now) command.entry.now
@@ -59,7 +59,7 @@ pub(crate) fn sure_verdict(rows: &[Ruled<'_>], command: &[u8], arguments: &[u8])
     Some(Verdict::NoMatch)
 }
 
-/// Returns the command as a witness, if both lists of rows do not say the same to it, whatever is met of what is noted. Returns
+/// Returns the command as a witness, if both lists of rows do not say the same to it, whichever noted conditions hold. Returns
 /// `AllocError` if allocation fails.
 pub(crate) fn witness_of(
     alloc: Global,

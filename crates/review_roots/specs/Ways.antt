@@ -59,7 +59,7 @@ abbrev pub marks_along : HostSteps → State → List State → Marks
 marks_along h s [] = unmarked
 marks_along h s (t ∷ ts) = joined_marks (step_on h s t).marks (marks_along h t ts)
 
--- how much it is to be asked for: nothing, perhaps a password, one's own, another user's
+-- the passwords in their order, the least first: none, perhaps one, one's own, another user's
 abbrev pub password_rank : Password → ℕ
 password_rank password.None = 0
 password_rank password.Maybe = 1
@@ -70,7 +70,7 @@ password_rank password.Other = 3
 abbrev pub adds_groups : HostSteps → Bool
 adds_groups h = nat_lt 0 (length h.groups.now)
 
--- the same on a host: where groups may be added, one's own password counts as another's
+-- their order on a host: where groups may be added, one's own password counts as another's
 abbrev pub password_cost : HostSteps → Password → ℕ
 password_cost h p = if adds_groups h then min (password_rank p) 2 else password_rank p
 

@@ -373,8 +373,8 @@ fn root_of(
 /// and those from whom a chain of steps of the least level of the steps, or a better one, leads to it.
 ///
 /// The chain that is given has the best level of all from the user, however long. Of those of that level none asks for less: it asks
-/// for no password, if one does not; otherwise its steps may go without, if those of one may; otherwise it asks for the user's own
-/// alone, if one does. Of those of that level that ask for no more none has fewer steps. From a user that is not among them no chain
+/// for no password, if one does not; otherwise its steps may go without, if those of one may; otherwise, where no group may be added,
+/// it asks for the user's own alone, if one does. Of those of that level that ask for no more none has fewer steps. From a user that is not among them no chain
 /// of the least level leads to the target, however long.
 ///
 /// Returns `AllocError` if allocation fails.

@@ -5,8 +5,8 @@ use audit_files::Triple;
 /// What is made readable besides options of a command and `list`.
 #[derive(Debug, Drop)]
 pub struct Readable {
-    /// Whether digests, times and roots are, by notes.
+    /// Whether notes stand for digests, times and roots.
     pub noted: bool,
-    /// The triples of the netgroups that are.
+    /// The triples of the netgroups whose members are read in their place.
     pub netgroups: Vec<Triple>,
 }

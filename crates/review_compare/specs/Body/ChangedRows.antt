@@ -19,7 +19,8 @@ is_fitted ds command arguments = list_any (λ d. command_fits d.atom command arg
 abbrev pub is_near : List Decider → Decider → Bool
 is_near changed d = list_any (λ e. not (disjoint_simply d.atom e.atom)) changed
 
--- whatever is met, a command that no changed row fits is answered alike; one that a changed row fits is answered by the near rows
+-- whichever noted conditions hold, a command that no changed row fits is answered alike; one that a changed row fits is answered by
+-- the near rows
 pub record AreChanged (ds es changed near_ds near_es : List Decider) : Type 0 where
   pub others : (met : Choice) (command arguments : List ℕ) → is_fitted changed command arguments ≡ false →
       said (verdict_among met ds command arguments) ≡ said (verdict_among met es command arguments)
