@@ -372,10 +372,10 @@ fn root_of(
 /// Returns the users that can become the target on the host, in the order of the directory: the target itself, all with ID 0,
 /// and those from whom a chain of steps of the least level of the steps, or a better one, leads to it.
 ///
-/// The chain that is given has the best level of all from the user, however long. Of those of that level none asks for less: it asks
-/// for no password, if one does not; otherwise its steps may go without, if those of one may; otherwise, where no group may be added,
-/// it asks for the user's own alone, if one does. Of those of that level that ask for no more none has fewer steps. From a user that is not among them no chain
-/// of the least level leads to the target, however long.
+/// The chain that is given has the best level of all from the user, however long. Of those of that level none asks for less: it
+/// asks for no password, if one does not; otherwise its steps may go without, if those of one may; otherwise, where no group may
+/// be added, it asks for the user's own alone, if one does. Of those of that level that ask for no more none has fewer steps.
+/// From a user that is not among them no chain of the least level leads to the target, however long.
 ///
 /// Returns `AllocError` if allocation fails.
 pub fn roots_on(
