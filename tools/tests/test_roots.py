@@ -17,7 +17,7 @@ from typing import NamedTuple
 
 import listing
 from drawn import Drawn
-from listing import FITS, FITS_GROUP, GROUPS, KNOWN_GROUPS, written_out
+from listing import FITS, FITS_GROUP, GROUPS, KNOWN_GROUPS, USERS, written_out
 from support import REVIEW, needs_review
 
 POLICIES = int(os.environ.get("POLICIES", "100"))
@@ -50,6 +50,13 @@ class State(NamedTuple):
 
 
 STATES = [State(user, added) for added in ("", *sorted(KNOWN_GROUPS)) for user in GROUPS]
+# The known groups in their order: that of the users file.
+IN_ORDER = ["", *dict.fromkeys(re.findall(r"([a-z]+):", USERS))]
+
+
+def place(state: State) -> tuple[bytes, int]:
+    """Returns the place of a state among others: by the name of its user, and then by its added group."""
+    return os.fsencode(state.user), IN_ORDER.index(state.added)
 
 
 class Grant(NamedTuple):
@@ -172,29 +179,35 @@ class Host:
         ease = self.steps[one, other].ease
         return 2 - ease if ease else 2 + (one.user != user)
 
-    def distance(self, user: str, level: int, most: int) -> int | None:
-        """Returns how few steps lead from a user to root, of a level or a better one, that ask for no more than a password."""
+    def first(self, user: str, level: int, most: int) -> list[State]:
+        """Returns the first of the shortest chains from a user to root, of a level or a better one, that ask for no more than a
+        password; or none."""
         good = {pair for pair, it in self.steps.items() if it.level >= level and self.asked(user, *pair) <= most}
-        found, last, count = {State(user)}, {State(user)}, 0
-        while last and all(state.user != "root" for state in last):
-            last = {other for one, other in good if one in last} - found
-            found |= last
-            count += 1
-        return count if last else None
+        left = dict.fromkeys((state for state in STATES if state.user == "root"), 0)
+        last = set(left)
+        while last:
+            last = {one for one, other in good if other in last} - set(left)
+            left |= dict.fromkeys(last, max(left.values()) + 1)
+        chain = [State(user)]
+        while left.get(chain[-1]):
+            ahead = [other for one, other in good if one == chain[-1] and left.get(other) == left[one] - 1]
+            chain.append(min(ahead, key=place))
+        return chain[1:]
 
-    def best(self) -> dict[str, tuple[str, int, int]]:
-        """Returns of each user that leads to root the best level, the least cost at that level, and the fewest steps then."""
-        best: dict[str, tuple[str, int, int]] = {}
+    def best(self) -> dict[str, tuple[str, int, list[State]]]:
+        """Returns of each user that leads to root the best level, the least cost at that level, and the first of the shortest
+        chains then."""
+        best: dict[str, tuple[str, int, list[State]]] = {}
         for level, most, user in itertools.product((1, 2, 3), (3, 2, 1, 0), GROUPS):
-            count = self.distance(user, level, most)
+            chain = self.first(user, level, most)
             least = cost(PASSWORDS[most], self.text)
             # A further password that costs no less is no reason for another chain.
-            if count and best.get(user, ("", 4))[:2] != (LEVELS[level], least):
-                best[user] = LEVELS[level], least, count
+            if chain and best.get(user, ("", 4))[:2] != (LEVELS[level], least):
+                best[user] = LEVELS[level], least, chain
         return best
 
-    def shown(self, row: Row) -> tuple[str, str, str, str, int]:
-        """Returns the level, the password, the place, the tags and the number of steps of the chain that a row shows."""
+    def shown(self, row: Row) -> tuple[str, str, str, str, list[State]]:
+        """Returns the level, the password, the place, the tags and the states of the chain that a row shows."""
         states = [State(row.user)]
         for name in row.via.split(" > ") if row.via else []:
             user, _, added = name.partition("+")
@@ -204,7 +217,7 @@ class Host:
         steps = [self.steps[pair] for pair in zip(states, states[1:])]
         asked = [self.asked(row.user, *pair) for pair in zip(states, states[1:])]
         level, password = LEVELS[min(step.level for step in steps)], PASSWORDS[max(asked, default=0)]
-        return level, password, steps[0].place, steps[0].tags, len(steps)
+        return level, password, steps[0].place, steps[0].tags, states[1:]
 
 
 class Draw(listing.Draw):
@@ -278,10 +291,10 @@ class Roots(Drawn):
         self.assertEqual(rows[0], Row("root", host.host, "root", "root", "none", "", "", "", ""))
         self.assertEqual([row.user for row in rows], [user for user in GROUPS if user in best or user == "root"])
         for row in rows[1:]:
-            level, password, place, tags, count = host.shown(row)
+            level, password, first_place, tags, chain = host.shown(row)
             wanted = password if is_sure or password == "none" else "?"
-            self.assertEqual(row[2:7], ("root", level, wanted, place, tags))
-            self.assertEqual((row.level, cost(password, host.text), count), best[row.user])
+            self.assertEqual(row[2:7], ("root", level, wanted, first_place, tags))
+            self.assertEqual((row.level, cost(password, host.text), chain), best[row.user])
 
     def seen(self, policy: listing.Policy, is_sure: bool) -> Iterator[str]:
         """Yields what there is in the table of a policy. Fails where it is not that of the second body."""

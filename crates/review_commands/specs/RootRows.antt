@@ -13,6 +13,7 @@ use Rattle.review_cautions.specs.PasswordDefaults.{decides_passwords}
 use Rattle.review_texts.specs.Notes.{notes}
 use Rattle.review_grants.specs.Depends.{depends_text, has_mark}
 use Rattle.review_roots.specs.AddableGroups.{addable_groups}
+use Rattle.review_roots.specs.Order.{user_name}
 use Rattle.review_roots.specs.Ranks.{level_name}
 use Rattle.review_roots.specs.Roots.{AreRoots}
 use Rattle.review_roots.specs.declared.given.AllowingRow.{AllowingRow}
@@ -26,14 +27,6 @@ use Rattle.review_roots.specs.declared.way.Password.TheVariants as password
 use Rattle.review_roots.specs.declared.way.Way.{Way}
 
 -- ---- One row
-
-abbrev pub person_name : Option Person → List ℕ
-person_name None = []
-person_name (Some u) = u.name
-
--- the name of the known user of an index
-abbrev pub user_name : KnownRows → ℕ → List ℕ
-user_name d user = person_name (slice_get d.people user)
 
 abbrev pub group_name : Option Group → List ℕ
 group_name None = []

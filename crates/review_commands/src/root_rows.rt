@@ -7,7 +7,9 @@ ghost use Rattle.review_roots.specs.AddableGroups.{addable_groups};
 ghost use Rattle.review_commands.specs.RootRows as spec;
 
 use audit_files::{push_field, push_next_field, push_place, put_tags};
-use review_roots::{AllowingRow, HostSteps, Level, Password, Root, Rules, State, Way, roots_on};
+use review_roots::{
+    AllowingRow, HostSteps, Level, Password, Root, Rules, State, Way, roots_on, user_name,
+};
 use std::alloc::{AllocError, Global};
 use sudo_match::{Directory, Group, Machine};
 use sudo_policy::Checked;
@@ -24,16 +26,6 @@ pub(crate) struct RootTable<'a> {
     pub(crate) all: bool,
     ghost grouped: { groups.now ≡ addable_groups checked.now directory.now },
     ghost decided: { unsure ≡ decides_passwords checked.now },
-}
-
-// Returns the name of the known user of an index, or no bytes.
-fn user_name(directory: &Directory, user: usize) -> &[u8]
-    ensures { result.now ≡ spec.user_name directory.now user }
-{
-    match directory.people().get(user) {
-        Some(person) => person.name.as_slice(),
-        None => &[],
-    }
 }
 
 // Returns the name of the group of an index, or no bytes.

@@ -12,14 +12,15 @@ use Rattle.review_roots.specs.declared.level.Level.{Level}
 use Rattle.review_roots.specs.declared.level.Level.TheVariants as level
 use Rattle.review_roots.specs.declared.chains.Chains.{Chains}
 use Rattle.review_roots.specs.declared.chains.Levels.{Levels}
+use Rattle.review_roots.specs.declared.near.Turning.{Turning}
 use Rattle.review_roots.specs.declared.search.Found.{Found}
 use Rattle.review_roots.specs.declared.search.Sought.{Sought}
 use Rattle.review_roots.specs.declared.state.State.{State}
 use Rattle.review_roots.specs.declared.way.Way.{Way}
 use Rattle.review_roots.specs.Sought.{any_steps, free_steps, own_steps, unasked_steps, steps_of}
 use Rattle.review_roots.specs.Chains.{HasNoPath, HasPath, LeadsAlong, Path}
-use Rattle.review_roots.specs.Body.Found.{AreUnentered}
-use Rattle.review_roots.specs.Body.Found.{AreFound, AreLevels, ChainsLead, IsBest, IsComplete, IsFound, IsFoundAt, IsLower}
+use Rattle.review_roots.specs.Body.Found.{AreUnentered, TurningLeads}
+use Rattle.review_roots.specs.Body.Found.{AreFound, AreLevels, AreOrdered, ChainsLead, IsBest, IsComplete, IsFound, IsFoundAt, IsLower}
 use Rattle.review_roots.specs.Body.Found.{any_sought, found_states, lower_found}
 use Rattle.review_roots.specs.Ranks.{is_at_least, rank}
 use Rattle.review_roots.specs.States.{state_with}
@@ -57,11 +58,14 @@ module _
     -- the chain of the found state at the index is one of the user
     pub chosen :
         (q : Sought) (xs found : List Found) (k : ℕ) (w : Way)
-        (is : (q : Sought) (f : Found) → AreFound (steps_of h q) h.states.now l xs → slice_get xs k ≡ Some f → IsChain h q f.state w) →
-        xs ≡ found → AreFound (steps_of h q) h.states.now l found → IsFoundAt found user (Some k) → IsChain h q start w
-    chosen q xs found k w is same are (f, (at, begins)) =
+        (is : (q : Sought) (f : Found) → AreFound (steps_of h q) h.states.now l xs → AreOrdered h q l xs → slice_get xs k ≡ Some f
+        → IsChain h q f.state w) →
+        xs ≡ found → AreFound (steps_of h q) h.states.now l found → AreOrdered h q l found → IsFoundAt found user (Some k)
+        → IsChain h q start w
+    chosen q xs found k w is same are order (f, (at, begins)) =
         subst (λ s. IsChain h q s w) (start-is user f.state begins)
-        (is q f (subst (AreFound (steps_of h q) h.states.now l) (sym same) are) (ap (λ (ys : List Found). slice_get ys k) same ∙ at))
+        (is q f (subst (AreFound (steps_of h q) h.states.now l) (sym same) are) (subst (AreOrdered h q l) (sym same) order)
+        (ap (λ (ys : List Found). slice_get ys k) same ∙ at))
 
     module _ (best : IsBest h target l user) (w : Way) (leveled : w.level ≡ l) where
       leads-at : (k : Counted) → IsChain h (record { target = target; counted = k }) start w
@@ -97,6 +101,13 @@ module _
             (chains-are-paths State (steps_of h (record { target = target; counted = k })) l start ts start-state leading'.inside
             (little-leads h target l k user of start ts leading'.leads
             (told-most h k told w.password (password_along h user start ts) most less))));
+        first = λ ts leading less few.
+            let leading' = leading-at ts leading in
+            let most = asks-most k of is in
+            is.first ts leading'.inside
+            (subst (λ m. LeadsAlong (steps_of h (record { target = target; counted = k })) m start ts) (sym leveled)
+            (little-leads h target l k user of start ts leading'.leads
+            (told-most h k told w.password (password_along h user start ts) most less))) few;
       }
         where
           most : (m : Level) → HasPath (any_steps h target) m start → (rank l < rank m) ⊎ (rank m ≤ rank l) → is_at_least m l ≡ true
@@ -146,24 +157,25 @@ module _
 
     -- no chain asks for nobody else's, where the user is not marked
     pub none-marked :
-        (chains : Chains) → ChainsLead h target l chains → HasNoPath (unasked_steps h target) l start →
-        get_or chains.near.items user true ≡ false → (user ≡ target → ⊥) → HasNoPath (own_steps h target user) l start
-    none-marked chains lead unasked far away =
-        own-none h target user l enough chains.any_starts.items chains.unasked.items chains.near.items
+        (chains : Chains) (t : Turning) → ChainsLead h target l chains →
+        TurningLeads h target l chains.any_starts.items chains.unasked.items t → HasNoPath (unasked_steps h target) l start →
+        get_or t.near.items user true ≡ false → (user ≡ target → ⊥) → HasNoPath (own_steps h target user) l start
+    none-marked chains t lead turning unasked far away =
+        own-none h target user l enough chains.any_starts.items chains.unasked.items t.near.items
         (starts-chainless h target l chains.any.items chains.any_starts.items lead.any lead.are.any_starts lead.are.any_users)
-        lead.unasked lead.near far away ((host-keeps h).starts user known) unasked
+        lead.unasked turning.near far away ((host-keeps h).starts user known) unasked
 
     -- nor where no step leads to where a chain may turn
     pub none-turning :
-        (chains : Chains) → ChainsLead h target l chains → HasNoPath (unasked_steps h target) l start →
-        get_or chains.wanted.items user true ≡ true → AreUnentered h l user (map
-        (λ c. c.now) chains.asking.items) chains.near_states.items →
+        (chains : Chains) (t : Turning) → ChainsLead h target l chains →
+        TurningLeads h target l chains.any_starts.items chains.unasked.items t → HasNoPath (unasked_steps h target) l start →
+        get_or t.wanted.items user true ≡ true → AreUnentered h l user (map (λ c. c.now) t.asking.items) t.near_states.items →
         (user ≡ target → ⊥) → HasNoPath (own_steps h target user) l start
-    none-turning chains lead unasked marks unentered away =
-        unentered-none h target user l enough chains.any_starts.items chains.unasked.items chains.near_states.items chains.wanted.items
-        (map (λ c. c.now) chains.asking.items)
+    none-turning chains t lead turning unasked marks unentered away =
+        unentered-none h target user l enough chains.any_starts.items chains.unasked.items t.near_states.items t.wanted.items
+        (map (λ c. c.now) t.asking.items)
         (starts-chainless h target l chains.any.items chains.any_starts.items lead.any lead.are.any_starts lead.are.any_users)
-        lead.unasked lead.near_states marks lead.asking unentered away ((host-keeps h).starts user known) unasked
+        lead.unasked turning.near_states marks turning.asking unentered away ((host-keeps h).starts user known) unasked
 
 -- ---- From level to level
 

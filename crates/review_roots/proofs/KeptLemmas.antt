@@ -1,11 +1,16 @@
 -- The states that are kept stand for all: a chain from a state is one, through kept states, from each kept state that is alike.
-use Rattle.std.proofs.Common.{◌≡◌, ◌<◌, ◌+◌, ◌∙◌, ℕ, zero, suc, Bool, true, false, not, List, [], ◌∷◌, ◌++◌, ap}
+use Rattle.std.proofs.Common.{◌≡◌, ◌<◌, ◌≤◌, ◌+◌, ◌∙◌, ℕ, zero, suc, Bool, true, false, cond, not, List, [], ◌∷◌, ◌++◌, ap}
 use Rattle.std.proofs.Common.{append_assoc, arith, flat_map, length, refl, subst, sym, Option, Some, None, inl, inr, ◌⊎◌}
-use Rattle.std.specs.Prelude.{find, slice_get}
+use Rattle.std.specs.Prelude.{find, filter, slice_get}
 use Rattle.std.specs.List.{Contains, range_with_len}
-use Rattle.std.proofs.lemmas.Bool.{not-true}
+use Rattle.std.specs.declared.cmp.Ordering.{Ordering}
+use Rattle.std.specs.declared.cmp.Ordering.TheVariants.{Less, Equal, Greater}
+use Rattle.std.specs.Ordering.{MatchOrdering, is_gt, nat_cmp}
+use Rattle.std.proofs.lemmas.Bool.{cases_lt, not-true}
+use Rattle.std.proofs.lemmas.Cmp.{ranked}
 use Rattle.std.proofs.lemmas.List.{map-append}
 use Rattle.std.proofs.lemmas.List.Elements.{Contains-append_left, Contains-append_right}
+use Rattle.std.proofs.lemmas.List.Elements.{All-contains}
 use Rattle.sudo_grammar.specs.declared.policy.Policy.{Policy}
 use Rattle.sudo_match.specs.declared.people.Group.{Group}
 use Rattle.sudo_match.specs.declared.people.Person.{Person}
@@ -13,12 +18,16 @@ use Rattle.sudo_match.specs.KnownRows.{KnownRows}
 use Rattle.sudo_verdict.specs.RunasForms.{has_group}
 use Rattle.review_roots.specs.declared.host.HostSteps.{HostSteps}
 use Rattle.review_roots.specs.declared.state.State.{State}
+use Rattle.review_roots.specs.Body.Candidates.{has_state}
 use Rattle.review_roots.specs.Body.Kept.{AreAlike, AreKept, has_at, has_if, if_any, kept_at, kept_by, kept_groups}
-use Rattle.review_roots.specs.Body.Kept.{kept_if, states_by}
+use Rattle.review_roots.specs.Body.Kept.{kept_if, kept_states, states_by}
 use Rattle.review_roots.specs.Body.Unnamed.{AreIds, is_unnamed, named_indices, unnamed_at, unnamed_if, unnamed_indices}
+use Rattle.review_roots.specs.Order.{state_cmp}
 use Rattle.review_roots.specs.States.{all_states, state_with, states_with}
+use Rattle.review_roots.proofs.CandidateLemmas.{has-in, in-has}
 use Rattle.review_roots.proofs.ListSteps.{flat-range}
 use Rattle.review_roots.proofs.MemberLemmas.{all-of, find-none, find-there, from-append, from-filter, from-flat, in-range, to-flat}
+use Rattle.review_roots.proofs.OrderLemmas.{behind-itself, one-user}
 use Rattle.review_roots.proofs.RootLemmas.{range-has}
 use Rattle.review_roots.proofs.SearchLemmas.{contains-at, contains-head, from-map, in-filter, to-map}
 
@@ -50,16 +59,55 @@ added-inside n m user i less within =
     (to-flat (λ i. states_with n (Some i)) (range_with_len 0 m) i (state_with (Some i) user) (range-has m i within)
     (to-map (state_with (Some i)) (range_with_len 0 n) user (range-has n user less)))
 
-state-is : (s : State) (added : Option ℕ) → s.added ≡ added → s ≡ state_with added s.user
+pub state-is : (s : State) (added : Option ℕ) → s.added ≡ added → s ≡ state_with added s.user
 state-is s added e = ap (λ a. state_with a s.user) e
 
-there : {X : Type 0} (xs : List X) (k : ℕ) → k < length xs → (x : X) × (slice_get xs k ≡ Some x)
+pub there : {X : Type 0} (xs : List X) (k : ℕ) → k < length xs → (x : X) × (slice_get xs k ≡ Some x)
 there [] k l = absurd (omega (arith, l))
 there (x ∷ xs) zero l = (x, refl)
 there (x ∷ xs) (suc k) l = there xs k (omega (arith, l))
 
 of-if : (o : Option ℕ) (i : ℕ) → o ≡ Some i → Contains (if_any o) i
 of-if o i e = subst (λ o. Contains (if_any o) i) (sym e) (contains-head i [] i refl)
+
+-- ---- The first of a kind
+
+not-more : (a b : ℕ) → a ≤ b → is_gt (nat_cmp a b) ≡ false
+not-more a b less = go (nat_cmp a b) refl (ranked a b (nat_cmp a b) refl)
+  where
+    go : (o : Ordering) → nat_cmp a b ≡ o → MatchOrdering o (a < b) (a ≡ b) (b < a) → is_gt (nat_cmp a b) ≡ false
+    go Less is stands = ap is_gt is
+    go Equal is stands = ap is_gt is
+    go Greater is stands = absurd (omega (arith, stands, less))
+
+-- what is found among the numbers that pass a test is the least of those that pass another one too
+find-least :
+    (t s : ℕ → Bool) (a n i j : ℕ) → find t (filter s (range_with_len a n)) ≡ Some j → a ≤ i → i < a + n → s i ≡ true → t i ≡ true → j ≤ i
+find-least t s a zero i j e low high keeps passes = absurd (omega (arith, low, high))
+find-least t s a (suc n) i j e low high keeps passes = go (s a) refl (find-least t s (a + 1) n i j) e
+  where
+    rest : List ℕ
+    rest = filter s (range_with_len (a + 1) n)
+
+    Later : Type 0
+    Later = find t rest ≡ Some j → a + 1 ≤ i → i < (a + 1) + n → s i ≡ true → t i ≡ true → j ≤ i
+
+    behind : Later → (i ≡ a → ⊥) → find t rest ≡ Some j → j ≤ i
+    behind later apart e = by (cases_lt a i)
+      where
+        by : (a < i) ⊎ (i ≤ a) → j ≤ i
+        by (inl less) = later e (omega (arith, less)) (omega (arith, high)) keeps passes
+        by (inr most) = absurd (apart (omega (arith, low, most)))
+
+    first : (c : Bool) → t a ≡ c → Later → cond c (Some a) (find t rest) ≡ Some j → j ≤ i
+    first true is later e = let same : a ≡ j = cc in omega (arith, same, low)
+    first false is later e =
+        behind later (λ same. absurd (let bad : true ≡ false = sym (ap t (sym same) ∙ passes) ∙ is in cc)) e
+
+    go : (b : Bool) → s a ≡ b → Later → find t (cond b (a ∷ rest) rest) ≡ Some j → j ≤ i
+    go true is later e = first (t a) refl later e
+    go false is later e =
+        behind later (λ same. absurd (let bad : true ≡ false = sym (ap s (sym same) ∙ keeps) ∙ is in cc)) e
 
 -- ---- Each state is alike to one that is kept
 
@@ -123,7 +171,15 @@ module _ (d : KnownRows) (groups : List Group) (ids : List ℕ) where
         )
 
     abbrev Stand : Type 0
-    Stand = (t : State) × (Contains kept t × AreAlike d groups ids (state_with (Some i) user) t)
+    Stand = (t : State) × (Contains kept t × (AreAlike d groups ids (state_with (Some i) user) t
+        × (is_gt (state_cmp d t (state_with (Some i) user)) ≡ false)))
+
+    -- the first of these groups does not stand behind the group
+    no-later : (t : ℕ → Bool) (j : ℕ) → find t others ≡ Some j → t i ≡ true
+        → is_gt (state_cmp d (state_with (Some j) user) (state_with (Some i) user)) ≡ false
+    no-later t j e passes =
+        one-user d (state_with (Some j) user) (state_with (Some i) user) refl
+        (not-more j i (find-least t (unnamed_at ids groups) 0 m i j e (omega arith) (omega (arith, within)) (ap (unnamed_if ids) at ∙ none) passes))
 
     had : has_group u g ≡ true → Stand
     had has = go (find (has_at u groups) others) refl
@@ -141,7 +197,7 @@ module _ (d : KnownRows) (groups : List Group) (ids : List ℕ) where
                     (if_any (find (has_at u groups) others) ++ if_any (find (λ i. not (has_at u groups i)) others)) j
                     (Contains-append_left (if_any (find (has_at u groups) others))
                     (if_any (find (λ i. not (has_at u groups i)) others)) j (of-if (find (has_at u groups) others) j e))),
-                stands j k.0 (k.1 ∙ sym has),
+                (stands j k.0 (k.1 ∙ sym has), no-later (has_at u groups) j e (ap (has_if u) at ∙ has)),
               ),
             )
 
@@ -162,7 +218,10 @@ module _ (d : KnownRows) (groups : List Group) (ids : List ℕ) where
                     (Contains-append_right (if_any (find (has_at u groups) others))
                     (if_any (find (λ i. not (has_at u groups i)) others)) j
                     (of-if (find (λ i. not (has_at u groups i)) others) j e))),
-                stands j k.0 (not-true (has_at u groups j) k.1 ∙ sym has),
+                (
+                  stands j k.0 (not-true (has_at u groups j) k.1 ∙ sym has),
+                  no-later (λ i. not (has_at u groups i)) j e (ap not (ap (has_if u) at ∙ has)),
+                ),
               ),
             )
 
@@ -184,13 +243,16 @@ module _ (d : KnownRows) (groups : List Group) (ids : List ℕ) where
       (in-filter (λ i. not (unnamed_at ids groups i)) (range_with_len 0 m) i (range-has m i within)
       (ap not (ap (unnamed_if ids) at ∙ some))))
 
-  covers-all : (s : State) → Contains (all_states n m) s → (t : State) × (Contains kept t × AreAlike d groups ids s t)
+  abbrev Covers : State → State → Type 0
+  Covers s t = Contains kept t × (AreAlike d groups ids s t × (is_gt (state_cmp d t s) ≡ false))
+
+  covers-all : (s : State) → Contains (all_states n m) s → (t : State) × Covers s t
   covers-all s inside = let parts = state-parts n m s inside in go parts.0 parts.1
     where
       go : s.user < n → (s.added ≡ None) ⊎ ((i : ℕ) × ((i < m) × (s.added ≡ Some i)))
-          → (t : State) × (Contains kept t × AreAlike d groups ids s t)
+          → (t : State) × Covers s t
       go less (inl alone) =
-          (s, (subst (Contains kept) (sym (state-is s None alone)) (alone-kept s.user less), alike-itself s))
+          (s, (subst (Contains kept) (sym (state-is s None alone)) (alone-kept s.user less), (alike-itself s, behind-itself d s)))
       go less (inr added) =
           let i = added.0 in
           let u = there d.people s.user less in
@@ -198,13 +260,12 @@ module _ (d : KnownRows) (groups : List Group) (ids : List ℕ) where
           at i u.0 g.0 u.1 added.1.0 g.1 (state-is s (Some i) added.1.1) (is_unnamed ids g.0) refl
         where
           at : (i : ℕ) (u : Person) (g : Group) → slice_get d.people s.user ≡ Some u → i < m → slice_get groups i ≡ Some g
-              → s ≡ state_with (Some i) s.user → (b : Bool) → is_unnamed ids g ≡ b
-              → (t : State) × (Contains kept t × AreAlike d groups ids s t)
+              → s ≡ state_with (Some i) s.user → (b : Bool) → is_unnamed ids g ≡ b → (t : State) × Covers s t
           at i u g is within at_i same true none =
               let t = unnamed-kept s.user i u g less is within at_i none in
-              (t.0, (t.1.0, subst (λ s. AreAlike d groups ids s t.0) (sym same) t.1.1))
+              (t.0, subst (λ s. Covers s t.0) (sym same) t.1)
           at i u g is within at_i same false some =
-              (s, (subst (Contains kept) (sym same) (named-kept s.user i u g less is within at_i some), alike-itself s))
+              (s, (subst (Contains kept) (sym same) (named-kept s.user i u g less is within at_i some), (alike-itself s, behind-itself d s)))
 
   -- ---- What is kept is among all
 
@@ -265,9 +326,27 @@ module _ (d : KnownRows) (groups : List Group) (ids : List ℕ) where
     starts = alone-kept;
   }
 
+-- states that are the same ones, in any order
+moved-kept :
+    (p : Policy) (d : KnownRows) (groups : List Group) (one other : List State) → ((s : State) → has_state other s ≡ has_state one s)
+    → AreKept p d groups one → AreKept p d groups other
+moved-kept p d groups one other same keeps = record {
+  ids = keeps.ids;
+  unnamed = keeps.unnamed;
+  inside = all-of (Contains (all_states (length d.people) (length groups))) other
+      (λ s inside.
+      All-contains (Contains (all_states (length d.people) (length groups))) one s keeps.inside
+      (has-in one s (sym (same s) ∙ in-has other s inside)));
+  covers = λ s inside. let t = keeps.covers s inside in (t.0, (moved t.0 t.1.0, t.1.1));
+  starts = λ user less. moved (state_with None user) (keeps.starts user less);
+}
+  where
+    moved : (s : State) → Contains one s → Contains other s
+    moved s inside = has-in other s (same s ∙ in-has one s inside)
+
 pub host-keeps : (h : HostSteps) → AreKept h.checked.now h.directory.now h.groups.now h.states.now
 host-keeps h =
-    subst (AreKept h.checked.now h.directory.now h.groups.now) (sym h.kept)
+    moved-kept h.checked.now h.directory.now h.groups.now (kept_states h.directory.now h.groups.now h.ids.now) h.states.now h.kept
     (are-kept h.directory.now h.groups.now h.ids.now h.checked.now h.unnamed)
 
 -- ---- The states of one user more

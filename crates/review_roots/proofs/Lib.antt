@@ -8,6 +8,9 @@ pub mod BlockLemmas
 pub mod GivenLemmas
 pub mod SearchLemmas
 pub mod DrawLemmas
+pub mod OrderLemmas
+pub mod LayerLemmas
+pub mod FirstLemmas
 pub mod EffectLemmas
 pub mod SettledLemmas
 pub mod StartLemmas

@@ -16,6 +16,14 @@ take-more xs at x within is =
     let on : at + 1 ≡ suc at = omega arith in
     ap (λ n. take n xs) on ∙ take-suc xs at x within ∙ ap (λ y. take at xs ++ y ∷ []) (sym is)
 
+-- the item at an index, and those behind it
+pub drop-next : {X : Type 0} (xs : List X) (at : ℕ) (d : X) → at < length xs → drop at xs ≡ get_or xs at d ∷ drop (at + 1) xs
+drop-next [] at d within = absurd (omega (arith, within))
+drop-next (x ∷ xs) zero d within = refl
+drop-next (x ∷ xs) (suc at) d within =
+    drop-next xs at d (omega (arith, within))
+    ∙ ap (λ k. get_or xs at d ∷ drop k (x ∷ xs)) (let e : suc (at + 1) ≡ suc at + 1 = omega arith in e)
+
 pub take-enumerated : {X : Type 0} (xs : List X) (at : ℕ) (x : X) → at < length xs → x ≡ get_or xs at x
     → take (at + 1) (enumerate_from 0 xs) ≡ take at (enumerate_from 0 xs) ++ (at, x) ∷ []
 take-enumerated {X} xs at x within is =

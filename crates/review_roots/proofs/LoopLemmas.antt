@@ -28,16 +28,17 @@ use Rattle.review_roots.specs.declared.state.State.{State}
 use Rattle.review_roots.specs.Asked.{given_asked, nothing}
 use Rattle.review_roots.specs.Blocks.{Row, is_for, lists, sign_of, with_rows}
 use Rattle.review_roots.specs.Body.Candidates.{part_at}
-use Rattle.review_roots.specs.Body.Found.{PointBack, AreFound, AreGiven, IsCandidate, IsFound, found_states}
+use Rattle.review_roots.specs.Body.Found.{PointBack, AreFound, AreGiven, AreOrdered, IsCandidate, IsFound, found_states}
 use Rattle.review_roots.specs.Sought.{steps_of}
 use Rattle.review_roots.specs.Chains.{Steps}
 use Rattle.review_roots.specs.Ways.{IsChain, step_password, worse}
+use Rattle.review_roots.proofs.FirstLemmas.{first-along}
 use Rattle.review_roots.proofs.GivenLemmas.{blocks_give}
 use Rattle.review_roots.proofs.IndexLemmas.{answer-at, parts-are}
 use Rattle.review_roots.proofs.SearchLemmas.{from-map, to-map}
 use Rattle.review_grants.specs.declared.marks.Marks.{Marks}
 use Rattle.review_grants.specs.Depends.{joined_marks}
-use Rattle.review_roots.specs.Body.Passing.{HasMarks, HasPassword, HasRow, LeadsWhole}
+use Rattle.review_roots.specs.Body.Passing.{HasMarks, HasPassword, HasRow, IsAlong, LeadsWhole}
 use Rattle.review_roots.proofs.WayLemmas.{AsksSoFar, LeadsSoFar, MarksSoFar, RowSoFar, asks-all, asks-more, leads-more, leads-all}
 use Rattle.review_roots.proofs.WayLemmas.{marks-all, marks-more, row-all, row-more}
 
@@ -182,8 +183,9 @@ states-inside g l found right s c =
 
 pub way-is :
     (h : HostSteps) (q : Sought) (l : Level) (found : List Found) (index : ℕ) (d f : Found) (chain : Vec State Global)
-    (password : Password) (marks : Marks) → AreFound (steps_of h q) h.states.now l found → AreGiven h found → index < length found →
-    slice_get found index ≡ Some f → LeadsWhole found index chain.items → All (Contains (found_states found)) chain.items →
+    (password : Password) (marks : Marks) → AreFound (steps_of h q) h.states.now l found → AreOrdered h q l found → AreGiven h found →
+    index < length found → slice_get found index ≡ Some f → LeadsWhole found index chain.items → IsAlong found index chain.items →
+    All (Contains (found_states found)) chain.items →
     HasRow found index chain.items → HasPassword found (get_or found index d).state.user index chain.items password →
     HasMarks found index chain.items marks →
     IsChain h q f.state (record {
@@ -193,7 +195,7 @@ pub way-is :
       password = password;
       marks = marks;
     })
-way-is h q l found index d f chain password marks are given inside at leads within row asks depends =
+way-is h q l found index d f chain password marks are order given inside at leads along within row asks depends =
     let whole = leads (steps_of h q) l (get_or found index d) are.linked (there found index d inside) in
     let is = All-contains (IsFound (steps_of h q) l) found (get_or found index d) are.right (Contains-get_or found index d inside) in
     subst (λ (e : Found). IsChain h q e.state (record {
@@ -208,6 +210,9 @@ way-is h q l found index d f chain password marks are given inside at leads with
           (states-inside (steps_of h q) l found are.right) chain.items within;
       leads = whole.0;
       shortest = λ n p. let few = is.shortest n p in let steps = whole.1 in omega (arith, few, steps);
+      first = λ ts all_in other few.
+          first-along h q l found are order chain.items index (get_or found index d) (there found index d inside) along ts all_in other
+          (let steps = whole.1 in omega (arith, few, steps));
       by = row h (get_or found index d) given (there found index d inside);
       password = asks h (get_or found index d) given (there found index d inside);
       marks = depends h (get_or found index d) given (there found index d inside);

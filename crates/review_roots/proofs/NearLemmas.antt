@@ -1,32 +1,33 @@
 -- Users that are one step from what is found, aim by aim, and their marks.
 use Rattle.std.proofs.Common.{[], ◌∷◌}
 use Rattle.std.proofs.Common.{◌≡◌, ◌<◌, ◌≤◌, ◌∙◌, ◌+◌, ◌⊎◌, ◌&&◌, ◌||◌, ◌==◌, ℕ, Bool, true}
-use Rattle.std.proofs.Common.{false, not, cond, List, ◌++◌, ap, arith, get_or, length}
-use Rattle.std.proofs.Common.{Option, inl, inr, map, refl, set, subst, sym, take}
+use Rattle.std.proofs.Common.{false, cond, List, ap, arith, get_or, length}
+use Rattle.std.proofs.Common.{None, Option, Some, inl, inr, refl, set, subst, sym, take}
 use Rattle.std.specs.Prelude.{All, filter, nat_lt}
-use Rattle.std.specs.List.{Contains}
-use Rattle.std.proofs.lemmas.Bool.{and_parts, cases_lt, eqb-true, lt-ltb, ltb-true, not-true}
-use Rattle.std.proofs.lemmas.List.{get_or-set_other, get_or-set_same, get_or_past, length-set, map-append, take_all}
+use Rattle.std.specs.List.{Contains, filter_map}
+use Rattle.std.proofs.lemmas.Bool.{and_parts, cases_lt, eqb-true, lt-ltb, ltb-true}
+use Rattle.std.proofs.lemmas.List.{get_or-set_other, get_or-set_same, get_or_past, length-set}
 use Rattle.std.proofs.lemmas.List.Elements.{All-contains, All-contains_itself, All-filter, All-push, All-weaker, filter_passes}
-use Rattle.std.proofs.lemmas.List.Elements.{Contains-append_left, Contains-append_right}
 use Rattle.review_roots.specs.declared.candidate.Candidate.{Candidate}
 use Rattle.review_roots.specs.declared.given.Counted.TheVariants as counted
 use Rattle.review_roots.specs.declared.host.HostSteps.{HostSteps}
 use Rattle.review_roots.specs.declared.level.Level.{Level}
-use Rattle.review_roots.specs.declared.search.Aim.{Aim}
 use Rattle.review_roots.specs.declared.search.Found.{Found}
 use Rattle.review_roots.specs.declared.state.State.{State}
-use Rattle.review_roots.specs.Body.Found.{AreNear, AreNearTo, IsCandidate, any_sought, found_by, found_states, is_left, marked, reaches}
+use Rattle.review_roots.specs.Body.Found.{AreNear, AreNearTo, any_sought, found_states, is_left, marked}
 use Rattle.review_roots.specs.declared.level.Level.TheVariants as level
 use Rattle.review_roots.specs.Body.Candidates.{is_heard}
-use Rattle.review_roots.specs.Body.Found.{AreUnentered, IsUnentered}
+use Rattle.review_roots.specs.Body.Found.{AreUnentered, IsUnentered, aims_at, first_of}
 use Rattle.review_roots.specs.Body.Found.{asking_of, is_asking, is_counted, may_start}
 use Rattle.review_roots.specs.Body.May.{may_reach}
 use Rattle.review_roots.specs.Ranks.{is_at_least}
 use Rattle.review_roots.specs.Ways.{step_on}
+use Rattle.review_roots.proofs.LayerLemmas.{pick-none, pick-state}
 use Rattle.review_roots.proofs.ListSteps.{take-more}
 use Rattle.review_roots.proofs.LoopLemmas.{same-there}
-use Rattle.review_roots.proofs.SearchLemmas.{both-all, from-map, in-filter, to-map}
+use Rattle.review_roots.proofs.MemberLemmas.{all-of}
+use Rattle.review_roots.proofs.OrderLemmas.{to-picked}
+use Rattle.review_roots.proofs.SearchLemmas.{contains-at, from-map, in-filter, to-map}
 
 -- ---- Marks
 
@@ -101,102 +102,30 @@ near-marked h target l starts found near marks are marked_all =
         ∙ All-contains (λ f. get_or marks f.state.user true ≡ true) near f.0 marked_all f.1)
     go c (inr none) = inr none
 
--- ---- One aim
+-- ---- The candidates that are drawn
 
-abbrev pub AreParted : List Candidate → List Found → List Candidate → Type 0
-AreParted all near left = All (λ c. Contains (found_states near) c.state ⊎ Contains left c) all
-
-abbrev pub AreFar : HostSteps → Level → List Found → List Candidate → Type 0
-AreFar h l found left = All (λ c. All (λ f. is_at_least l (step_on h c.state f.state).level ≡ false) found) left
-
-pub parted-first : (all left : List Candidate) (near : List Found) → left ≡ all → AreParted all near left
-parted-first all left near is =
-    All-weaker (Contains all) (λ c. Contains (found_states near) c.state ⊎ Contains left c) (λ c inside. inr (subst (λ xs. Contains xs c)
-    (sym is) inside)) all (All-contains_itself all)
-
-module _
-    (h : HostSteps) (l : Level) (n : ℕ) (s : State) (near new : List Found) (left kept : List Candidate)
-    (finds : new ≡ near ++ map (found_by h (record { index = n; state = s; level = l; counted = counted.Any; steps = 0 }))
-    (filter (reaches h (record { index = n; state = s; level = l; counted = counted.Any; steps = 0 })) left))
-    (keeps : kept ≡ filter (λ c. not (reaches h (record { index = n; state = s; level = l; counted = counted.Any; steps = 0 }) c)) left)
+-- those that are drawn are near, and no other one has a step
+pub near-drawn :
+    (h : HostSteps) (target : ℕ) (l : Level) (starts : List (Option ℕ)) (found near : List Found) (left : List Candidate) →
+    left ≡ filter (is_left h (any_sought target) starts) h.candidates.now →
+    near ≡ filter_map (first_of h (aims_at (any_sought target) l 0 found)) left → AreNearTo h target l starts found near
+near-drawn h target l starts found near left is drawn =
+    subst (All Near) is (all-of Near left (λ c inside. go c inside (first_of h (aims_at (any_sought target) l 0 found) c) refl))
   where
-    abbrev aim : Aim
-    aim = record { index = n; state = s; level = l; counted = counted.Any; steps = 0 }
+    Near : Candidate → Type 0
+    Near c = Contains (found_states near) c.state ⊎ All (λ f. is_at_least l (step_on h c.state f.state).level ≡ false) found
 
-    abbrev more : List Found
-    more = map (found_by h aim) (filter (reaches h aim) left)
-
-    pub parted-more : (all : List Candidate) → AreParted all near left → AreParted all new kept
-    parted-more all so_far =
-        subst (λ xs. AreParted all xs kept) (sym finds)
-        (subst (AreParted all (near ++ more)) (sym keeps)
-        (All-weaker (λ c. Contains (found_states near) c.state ⊎ Contains left c)
-        (λ c. Contains (found_states (near ++ more)) c.state ⊎ Contains (filter (λ c. not (reaches h aim c)) left) c) one all so_far))
-      where
-        states : found_states near ++ found_states more ≡ found_states (near ++ more)
-        states = sym (map-append (λ (f : Found). f.state) near more)
-
-        one : (c : Candidate) → Contains (found_states near) c.state ⊎ Contains left c
-            → Contains (found_states (near ++ more)) c.state ⊎ Contains (filter (λ c. not (reaches h aim c)) left) c
-        one c (inl inside) =
-            inl (subst (λ xs. Contains xs c.state) states (Contains-append_left (found_states near) (found_states more) c.state inside))
-        one c (inr inside) = go (reaches h aim c) refl
-          where
-            go : (b : Bool) → reaches h aim c ≡ b
-                → Contains (found_states (near ++ more)) c.state ⊎ Contains (filter (λ c. not (reaches h aim c)) left) c
-            go true e =
-                inl (subst (λ xs. Contains xs c.state) states
-                (Contains-append_right (found_states near) (found_states more) c.state
-                (to-map (λ (f : Found). f.state) more (found_by h aim c)
-                (to-map (found_by h aim) (filter (reaches h aim) left) c (in-filter (reaches h aim) left c inside e)))))
-            go false e = inr (in-filter (λ c. not (reaches h aim c)) left c inside (ap not e))
-
-    pub far-more :
-        (found : List Found) (d : Found) → n < length found → (get_or found n d).state ≡ s → AreFar h l (take n found) left →
-        AreFar h l (take (n + 1) found) kept
-    far-more found d within at so_far =
-        subst (AreFar h l (take (n + 1) found)) (sym keeps)
-        (All-weaker (λ c. All (λ f. is_at_least l (step_on h c.state f.state).level ≡ false) (take n found)
-        × (not (reaches h aim c) ≡ true))
-        (λ c. All (λ f. is_at_least l (step_on h c.state f.state).level ≡ false) (take (n + 1) found)) one
-        (filter (λ c. not (reaches h aim c)) left)
-        (both-all (λ c. All (λ f. is_at_least l (step_on h c.state f.state).level ≡ false) (take n found))
-        (λ c. not (reaches h aim c) ≡ true) (filter (λ c. not (reaches h aim c)) left)
-        (All-filter (λ c. not (reaches h aim c))
-        (λ c. All (λ f. is_at_least l (step_on h c.state f.state).level ≡ false) (take n found)) left so_far)
-        (filter_passes (λ c. not (reaches h aim c)) left)))
-      where
-        f : Found
-        f = get_or found n d
-
-        one : (c : Candidate) → All (λ f. is_at_least l (step_on h c.state f.state).level ≡ false) (take n found)
-            × (not (reaches h aim c) ≡ true) → All (λ f. is_at_least l (step_on h c.state f.state).level ≡ false) (take (n + 1) found)
-        one c both =
-            subst (All (λ f. is_at_least l (step_on h c.state f.state).level
-            ≡ false)) (sym (take-more found n f within (same-there found n d f within)))
-            (All-push (λ f. is_at_least l (step_on h c.state f.state).level ≡ false) (take n found) f both.0
-            (ap (λ t. is_at_least l (step_on h c.state t).level) at ∙ not-true (reaches h aim c) both.1))
-
-    pub near-candidates : All (IsCandidate h) left → All (IsCandidate h) kept
-    near-candidates all = subst (All (IsCandidate h)) (sym keeps) (All-filter (λ c. not (reaches h aim c)) (IsCandidate h) left all)
-
--- after the last aim
-pub near-all :
-    (h : HostSteps) (target : ℕ) (l : Level) (starts : List (Option ℕ)) (found near : List Found) (left : List Candidate) (n : ℕ) →
-    length found ≤ n →
-    AreParted (filter (is_left h (any_sought target) starts) h.candidates.now) near left → AreFar h l (take n found) left →
-    AreNearTo h target l starts found near
-near-all h target l starts found near left n all parted far =
-    All-weaker (λ c. Contains (found_states near) c.state ⊎ Contains left c)
-    (λ c. Contains (found_states near) c.state ⊎ All (λ f. is_at_least l (step_on h c.state f.state).level ≡ false) found) go
-    (filter (is_left h (any_sought target) starts) h.candidates.now) parted
-  where
-    go : (c : Candidate) → Contains (found_states near) c.state ⊎ Contains left c
-        → Contains (found_states near) c.state ⊎ All (λ f. is_at_least l (step_on h c.state f.state).level ≡ false) found
-    go c (inl inside) = inl inside
-    go c (inr inside) =
-        inr (subst (All (λ f. is_at_least l (step_on h c.state f.state).level ≡ false)) (take_all n found all)
-        (All-contains (λ c. All (λ f. is_at_least l (step_on h c.state f.state).level ≡ false) (take n found)) left c far inside))
+    go : (c : Candidate) → Contains left c → (o : Option Found) → first_of h (aims_at (any_sought target) l 0 found) c ≡ o → Near c
+    go c inside None none =
+        inr (all-of (λ f. is_at_least l (step_on h c.state f.state).level ≡ false) found
+        (λ f there.
+        let k = contains-at found f there in
+        pick-none h (any_sought target) l 0 found c none k.0 f (omega arith) k.1))
+    go c inside (Some f) some =
+        inl (subst (Contains (found_states near)) (pick-state h (any_sought target) l 0 found c f some)
+        (to-map (λ (f : Found). f.state) near f
+        (subst (λ fs. Contains fs f) (sym drawn)
+        (to-picked (first_of h (aims_at (any_sought target) l 0 found)) left c f inside some))))
 
 -- ---- Candidates on the way from a marked user
 

@@ -4,6 +4,7 @@ use Rattle.std.proofs.Common.{◌==◌, List, [], ◌∷◌, ap, arith, get_or, 
 use Rattle.std.proofs.Common.{refl, subst, sym, Option, Some, None, inl, inr, ◌⊎◌}
 use Rattle.std.specs.Prelude.{All, option_map, slice_get}
 use Rattle.std.specs.List.{Contains, list_any}
+use Rattle.std.specs.Ordering.{is_gt}
 use Rattle.std.proofs.lemmas.Bool.{eqb-true}
 use Rattle.std.proofs.lemmas.Option.{slice_get_within}
 use Rattle.std.proofs.lemmas.List.Elements.{All-contains, All-weaker}
@@ -22,6 +23,7 @@ use Rattle.review_roots.specs.Body.Found.{any_sought, found_states, is_start, ke
 use Rattle.review_roots.specs.Body.Kept.{AreAlike, AreBothUnnamed, AreKept, IsAlike}
 use Rattle.review_roots.specs.Body.Unnamed.{is_unnamed}
 use Rattle.review_roots.specs.Chains.{Steps, Path, here, more, HasNoPath}
+use Rattle.review_roots.specs.Order.{state_cmp}
 use Rattle.review_roots.specs.Ranks.{is_at_least}
 use Rattle.review_roots.specs.Sought.{any_steps, steps_of}
 use Rattle.review_roots.specs.States.{given_between, group_at, level_for, state_with, with_added}
@@ -214,7 +216,7 @@ module _ (h : HostSteps) (q : Sought) (known : directory_fault h.directory.now.p
       (given_between h.checked.now h.directory.now h.host.now (option_map (λ x. with_added x (added s)) u) v (added t))
 
   -- steps between states that are alike are the same, but for one between two that are alike to one another
-  step-same : (s s' t t' : State) → Alike s s' → Alike t t' → Alike s t ⊎ (g.level s t ≡ g.level s' t')
+  pub step-same : (s s' t t' : State) → Alike s s' → Alike t t' → Alike s t ⊎ (g.level s t ≡ g.level s' t')
   step-same s s' t t' from to = go (slice_get people s.user) refl (slice_get people t.user) refl
     where
       carried : (u v : Option Person) → slice_get people s.user ≡ u → slice_get people t.user ≡ v
@@ -266,7 +268,7 @@ module _ (h : HostSteps) (q : Sought) (known : directory_fault h.directory.now.p
       go (Some u) is None at = inr (carried (Some u) None is at (ap (λ user. level_for q.counted user nothing) from.0))
       go (Some u) is (Some v) at = both u v is at
 
-  alike-turn : (s t t' : State) → Alike s t → Alike s t' → Alike t t'
+  pub alike-turn : (s t t' : State) → Alike s t → Alike s t' → Alike t t'
   alike-turn s t t' one other = (
     sym one.0 ∙ other.0,
     λ u is.
@@ -276,7 +278,7 @@ module _ (h : HostSteps) (q : Sought) (known : directory_fault h.directory.now.p
   )
 
   -- a chain of no more steps leads from the state
-  abbrev HasWithin : Level → ℕ → State → Type 0
+  abbrev pub HasWithin : Level → ℕ → State → Type 0
   HasWithin l n s = (m : ℕ) × ((m ≤ n) × Path k l m s)
 
   -- a chain from a state is one of no more steps, through kept states, from each kept state that is alike
@@ -286,15 +288,15 @@ module _ (h : HostSteps) (q : Sought) (known : directory_fault h.directory.now.p
   kept-path l (more {n} {s} {t} c step rest) s' inside alike =
       go (keeps.covers t (path-state g l rest)) (λ u there like. kept-path l rest u there like)
     where
-      go : (t' : State) × (Contains h.states.now t' × Alike t t')
+      go : (t' : State) × (Contains h.states.now t' × (Alike t t' × (is_gt (state_cmp h.directory.now t' t) ≡ false)))
           → ((u : State) → Contains k.states u → Alike t u → HasWithin l n u) → HasWithin l (suc n) s'
-      go found behind = next (step-same s s' t found.0 alike found.1.1)
+      go found behind = next (step-same s s' t found.0 alike found.1.1.0)
         where
           next : Alike s t ⊎ (g.level s t ≡ g.level s' found.0) → HasWithin l (suc n) s'
           next (inl same) =
               let b = behind s' inside (alike-turn s t s' same alike) in (b.0, (let most = b.1.0 in omega (arith, most), b.1.1))
           next (inr level) =
-              let b = behind found.0 found.1.0 found.1.1 in (
+              let b = behind found.0 found.1.0 found.1.1.0 in (
                 suc b.0,
                 (let most = b.1.0 in omega (arith, most), more inside (ap (is_at_least l) (sym level) ∙ step) b.1.1),
               )

@@ -23,6 +23,7 @@ use Rattle.review_roots.specs.Body.Found.{found_states, found_there, IsCandidate
 use Rattle.review_roots.specs.Body.Found.{AreGiven, HaveNoChain, IsGiven, IsStuck, is_counted, is_left, kept_steps, may_start, starts_or}
 use Rattle.review_roots.specs.Body.May.{may_count}
 use Rattle.review_roots.specs.Chains.{HasNoPath, Steps, Path, here, more}
+use Rattle.review_roots.specs.Order.{IsInOrder}
 use Rattle.review_roots.specs.Ranks.{is_at_least}
 use Rattle.review_roots.specs.Sought.{any_steps}
 use Rattle.review_roots.specs.States.{given_between, person_of, group_at, level_for, step_given}
@@ -30,11 +31,17 @@ use Rattle.review_roots.proofs.CandidateLemmas.{has-in}
 use Rattle.review_roots.proofs.IndexLemmas.{any-are, answer-at}
 use Rattle.review_roots.proofs.MayLemmas.{uncounted}
 use Rattle.review_roots.proofs.KeptLemmas.{host-keeps}
+use Rattle.review_roots.proofs.LayerLemmas.{map-at}
 use Rattle.review_roots.proofs.MemberLemmas.{neither}
+use Rattle.review_roots.proofs.OrderLemmas.{kept-order}
 use Rattle.review_roots.proofs.SearchLemmas.{at-least-below, at-least-trans, at-contains, both-all, from-map, in-filter, to-map}
 use Rattle.review_roots.proofs.WeakLemmas.{any-weaker, quiet-between, weak-level, weak-nothing}
 
 -- the states at the target are those that are found
+map-itself : (xs : List State) → map (λ s. s) xs ≡ xs
+map-itself [] = refl
+map-itself (x ∷ xs) = ap (λ ys. x ∷ ys) (map-itself xs)
+
 there-states : (xs : List State) → found_states (map found_there xs) ≡ xs
 there-states [] = refl
 there-states (x ∷ xs) = ap (λ ys. x ∷ ys) (there-states xs)
@@ -208,6 +215,13 @@ module _ (h : HostSteps) (q : Sought) (k : Level) (asked : is_at_least h.least k
         (λ s is. go s is.0 is.1 (at_goal s) refl (has_state (states_of h.candidates.now) s) refl) g.states
         (both-all (Contains g.states) (λ s. has_state (states_of h.candidates.now) s ≡ false → Silent s) g.states
         (All-contains_itself g.states) h.covered.covered);
+    found_order = subst (λ fs. IsInOrder h.directory.now (found_states fs)) (sym finds)
+        (subst (IsInOrder h.directory.now) (sym (there-states (filter at_goal g.states)))
+        (subst (IsInOrder h.directory.now) (map-itself (filter at_goal g.states))
+        (kept-order h.directory.now (λ s. s) at_goal g.states
+        (subst (IsInOrder h.directory.now) (sym (map-itself g.states)) h.states_order))));
+    left_order = subst (λ cs. IsInOrder h.directory.now (states_of cs)) (sym leaves)
+        (kept-order h.directory.now (λ (c : Candidate). c.state) (is_left h q starts) h.candidates.now h.candidates_order);
   }
     where
       Goal : Found → Type 0
@@ -256,7 +270,7 @@ module _ (h : HostSteps) (q : Sought) (k : Level) (asked : is_at_least h.least k
       go s inside silent false away false none = inr (inr (mute-stuck s (silent-mute s (silent none) away)))
 
   pub start-search : (l : Level) → is_at_least k l ≡ true → (found : List Found) (left : List Candidate) → IsStartOf h q k found left
-      → IsSearch g k l 0 found (states_of left)
+      → IsSearch h.directory.now g k l 0 found (states_of left)
   start-search l enough found left start = record {
     level = enough;
     right = All-weaker (λ f. ((f.steps ≡ 0) × ((f.next ≡ None) × (g.goal f.state ≡ true))) × Contains g.states f.state) (IsFound g l)
@@ -274,8 +288,14 @@ module _ (h : HostSteps) (q : Sought) (k : Level) (asked : is_at_least h.least k
     inside = All-map (Contains g.states) (λ (c : Candidate). c.state) left start.inside;
     away = All-map (λ s. g.goal s ≡ false) (λ (c : Candidate). c.state) left start.away;
     drawn = λ n d inside j f less at. absurd (omega (arith, less));
-    ordered = λ i j f e before at_i at_j. let none = (goal_at i f at_i).0 in omega (arith, none);
-    close = λ i f t at there. let none = (goal_at i f at).0 in omega (arith, none);
+    depth = 0;
+    before = λ i f less at. absurd (omega (arith, less));
+    after = λ i f from at. (goal_at i f at).0;
+    first = λ i next j f e at is less at_j. absurd (let end = (goal_at i f at).1.0 in let bad : Some next ≡ None = sym is ∙ end in cc);
+    sorted = λ i j f e less at_i at_j same.
+        start.found_order i j f.state e.state less
+        (map-at (λ (f : Found). f.state) found i f at_i) (map-at (λ (f : Found). f.state) found j e at_j);
+    waiting = start.left_order;
   }
     where
       goal_at : (i : ℕ) (f : Found) → slice_get found i ≡ Some f → (f.steps ≡ 0) × ((f.next ≡ None) × (g.goal f.state ≡ true))

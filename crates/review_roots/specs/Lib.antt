@@ -4,6 +4,7 @@ pub mod Passwords
 pub mod Asked
 pub mod Blocks
 pub mod Chains
+pub mod Order
 pub mod States
 pub mod Sought
 pub mod KnownGroups

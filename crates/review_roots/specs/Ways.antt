@@ -1,6 +1,6 @@
 -- A chain of steps to a target: its level, the row that allows its first step, and whose passwords it asks for.
 -- sudo(8), sudoers(5), "Tag_Spec": a password is asked unless NOPASSWD is in force.
-use Rattle.std.specs.Prelude.{◌≡◌, ◌≤◌, ℕ, Bool, min, nat_lt, true, ◌==◌, if◌then◌else◌, List, [], ◌∷◌, All, Option, None, codes, length}
+use Rattle.std.specs.Prelude.{◌≡◌, ◌≤◌, ℕ, Bool, min, nat_lt, true, false, ◌==◌, if◌then◌else◌, List, [], ◌∷◌, All, Option, None, codes, length}
 use Rattle.std.specs.List.{Contains}
 use Rattle.review_grants.specs.declared.marks.Marks.{Marks}
 use Rattle.review_grants.specs.Depends.{joined_marks, unmarked}
@@ -15,6 +15,7 @@ use Rattle.review_roots.specs.declared.way.Password.TheVariants as password
 use Rattle.review_roots.specs.declared.way.Way.{Way}
 use Rattle.review_roots.specs.Sought.{any_steps, steps_of}
 use Rattle.review_roots.specs.Chains.{HasPath, LeadsAlong, Path}
+use Rattle.review_roots.specs.Order.{is_behind}
 use Rattle.review_roots.specs.Ranks.{is_at_least}
 use Rattle.review_roots.specs.States.{step_given}
 
@@ -80,18 +81,21 @@ pub record IsLeading (h : HostSteps) (target : ℕ) (l : Level) (s : State) (ts 
   pub leads : LeadsAlong (any_steps h target) l s ts
 
 -- of the steps that are sought, the chain leads from the state to the target through states, with its level, and no chain of that
--- level has fewer steps; the row allows the first step, and the password and the notes are the chain's
+-- level has fewer steps; of those that have no more none goes before it; the row allows the first step, and the password and the
+-- notes are the chain's
 pub record IsChain (h : HostSteps) (q : Sought) (s : State) (w : Way) : Type 0 where
   pub inside : All (Contains (steps_of h q).states) w.chain.items
   pub leads : LeadsAlong (steps_of h q) w.level s w.chain.items
   pub shortest : (n : ℕ) → Path (steps_of h q) w.level n s → length w.chain.items ≤ n
+  pub first : (ts : List State) → All (Contains (steps_of h q).states) ts → LeadsAlong (steps_of h q) w.level s ts
+      → length ts ≤ length w.chain.items → is_behind h.directory.now w.chain.items ts ≡ false
   pub by : w.by ≡ first_row h s w.chain.items
   pub password : w.password ≡ password_along h s.user s w.chain.items
   pub marks : w.marks ≡ marks_along h s w.chain.items
 
 -- of all steps, the chain leads from the state to the target through states, with its level, which no chain betters and which is the
 -- least asked for or a better one; the row allows the first step, and the password and the notes are the chain's; no chain of its level,
--- however long, costs less, and none of those that cost no more has fewer steps
+-- however long, costs less, and none of those that cost no more has fewer steps; of those that have no more none goes before it
 pub record IsWay (h : HostSteps) (target : ℕ) (least : Level) (s : State) (w : Way) : Type 0 where
   pub inside : All (Contains (any_steps h target).states) w.chain.items
   pub leads : LeadsAlong (any_steps h target) w.level s w.chain.items
@@ -104,3 +108,6 @@ pub record IsWay (h : HostSteps) (target : ℕ) (least : Level) (s : State) (w :
       → password_cost h w.password ≤ password_cost h (password_along h s.user s ts)
   pub shortest : (ts : List State) → IsLeading h target w.level s ts
       → password_cost h (password_along h s.user s ts) ≤ password_cost h w.password → length w.chain.items ≤ length ts
+  pub first : (ts : List State) → IsLeading h target w.level s ts
+      → password_cost h (password_along h s.user s ts) ≤ password_cost h w.password → length ts ≤ length w.chain.items
+      → is_behind h.directory.now w.chain.items ts ≡ false

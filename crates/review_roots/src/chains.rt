@@ -3,24 +3,23 @@
 ghost use Rattle.std.specs.Prelude.{◌≡◌, IfOk, IsTrue, List};
 ghost use Rattle.review_roots.specs.Ranks.{is_at_least};
 ghost use Rattle.review_roots.specs.Sought.{any_steps};
-ghost use Rattle.review_roots.specs.Body.Found.{AreFound, AreGiven, AreLevels, ChainsLead, IsLower, IsLowerSpread, IsSomeSpread};
+ghost use Rattle.review_roots.specs.Body.Found.{AreFound, AreGiven, AreLevels, AreOrdered, ChainsLead, IsLower, IsLowerSpread};
+ghost use Rattle.review_roots.specs.Body.Found.{IsSomeSpread, any_sought};
 ghost use Rattle.review_roots.specs.Body.Found.{IsSpread, lower_found, lower_spread};
 ghost use Rattle.review_roots.specs.declared.level.Level.TheVariants as level;
 ghost use Rattle.review_roots.specs.declared.search.Found.{Found as TheFound};
 
 use crate::Level;
-use crate::candidate::Candidate;
 use crate::given::Counted;
 use crate::host::HostSteps;
-use crate::near::{asking, near_states, users_of, wanted_of};
-use crate::search::{Found, Reach, Sought, found_at, found_of, has_step, spread_of};
+use crate::near::{Turning, turning_of};
+use crate::search::{Found, Reach, Sought, found_of, has_step, spread_of};
 use crate::starts::starts_of;
 use std::alloc::{AllocError, Global};
 
-/// The states from which chains of a level lead to a target, each with a shortest one: by any steps, by steps that may go without a
-/// password, and by steps that ask for none; where each user is among them; and for each user whether a step of one of its states, of
-/// any kind, leads to one from which a chain of steps leads that may go without a password; and what a search by steps of one such user
-/// begins with.
+/// The states from which chains of a level lead to a target, each with the first of its shortest ones: by any steps, by steps that may
+/// go without a password, and by steps that ask for none; where each user is among them; and, where no group may be added, where chains
+/// turn by steps of one user.
 #[derive(Drop)]
 pub(crate) struct Chains<'r> {
     pub(crate) any: Vec<Found>,
@@ -29,11 +28,7 @@ pub(crate) struct Chains<'r> {
     pub(crate) unasked_starts: Vec<Option<usize>>,
     pub(crate) free: Vec<Found>,
     pub(crate) free_starts: Vec<Option<usize>>,
-    pub(crate) near: Vec<bool>,
-    pub(crate) near_states: Vec<Found>,
-    pub(crate) wanted: Vec<bool>,
-    pub(crate) goals: Vec<Found>,
-    pub(crate) asking: Vec<&'r Candidate>,
+    pub(crate) turning: Option<Turning<'r>>,
 }
 
 /// The chains of each level. There are none of a level by which no further state leads to the target.
@@ -55,6 +50,7 @@ fn chains_at<'r>(
     requires level { IsTrue (is_at_least steps.now.least level) }
     requires any { AreFound (any_steps steps.now target) steps.now.states.now level any.items }
     requires given { AreGiven steps.now any.items }
+    requires order { AreOrdered steps.now (any_sought target) level any.items }
     ensures lead { IfOk result (λ chains. ChainsLead steps.now target level chains) }
     ensures any { IfOk result (λ chains. chains.any.items ≡ any.items) }
 {
@@ -82,11 +78,15 @@ fn chains_at<'r>(
     )?;
     let unasked_starts = starts_of(alloc, users, &unasked)?;
     let free_starts = starts_of(alloc, users, &free)?;
-    let near_states = near_states(alloc, steps, target, level, &any_starts, &unasked)?;
-    let near = users_of(alloc, users, &near_states)?;
-    let wanted = wanted_of(alloc, &any_starts, &unasked_starts, &near)?;
-    let goals = found_at(alloc, steps, target)?;
-    let asking = asking(alloc, steps, target, &wanted)?;
+    let turning = turning_of(
+        alloc,
+        steps,
+        target,
+        level,
+        &any_starts,
+        &unasked,
+        &unasked_starts,
+    )?;
     Ok(Chains {
         any,
         any_starts,
@@ -94,11 +94,7 @@ fn chains_at<'r>(
         unasked_starts,
         free,
         free_starts,
-        near,
-        near_states,
-        wanted,
-        goals,
-        asking,
+        turning,
     })
 }
 

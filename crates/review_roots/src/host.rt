@@ -3,12 +3,14 @@ ghost use Rattle.std.specs.Prelude.{◌≡◌, IfOk, IsTrue, None, map};
 ghost use Rattle.std.specs.List.{list_all};
 ghost use Rattle.sudo_match.specs.KnownRows.{directory_fault};
 ghost use Rattle.review_roots.specs.Blocks.{AreBlocks, block_resolves, is_for};
-ghost use Rattle.review_roots.specs.Body.Candidates.{AreCandidates};
+ghost use Rattle.review_roots.specs.Body.Candidates.{AreCandidates, has_state, states_of};
+ghost use Rattle.review_roots.specs.Order.{IsInOrder};
 ghost use Rattle.review_roots.specs.Body.Kept.{kept_states};
 ghost use Rattle.review_roots.specs.Body.Raising.{block_raises, indices};
 ghost use Rattle.review_roots.specs.Body.Unnamed.{AreIds};
 ghost use Rattle.review_roots.specs.Ranks.{is_at_least};
 ghost use Rattle.review_roots.specs.declared.level.Level.TheVariants as level;
+ghost use Rattle.review_roots.specs.declared.state.State.{State as TheState};
 
 use crate::Level;
 use crate::block::Block;
@@ -37,7 +39,7 @@ pub struct HostSteps<'r, 'a> {
     pub(crate) raising: &'r [usize],
     // The IDs of the groups that a list names.
     pub(crate) ids: &'r [u32],
-    // The states that stand for all.
+    // The states that stand for all, in their order.
     pub(crate) states: &'r [State],
     pub(crate) candidates: &'r [Candidate],
     pub(crate) places: &'r [Option<usize>],
@@ -51,7 +53,10 @@ pub struct HostSteps<'r, 'a> {
     ghost covered: { AreCandidates checked.now directory.now groups.now least blocks.now
         states.now candidates.now },
     ghost unnamed: { AreIds checked.now groups.now ids.now },
-    ghost kept: { states.now ≡ kept_states directory.now groups.now ids.now },
+    ghost kept: { (s : TheState) → has_state states.now s
+        ≡ has_state (kept_states directory.now groups.now ids.now) s },
+    ghost states_order: { IsInOrder directory.now states.now },
+    ghost candidates_order: { IsInOrder directory.now (states_of candidates.now) },
     ghost faultless: { directory_fault directory.now.people directory.now.machines ≡ None },
 }
 

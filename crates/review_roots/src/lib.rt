@@ -17,10 +17,12 @@ mod groups;
 mod host;
 mod kept;
 mod laws;
+mod layer;
 mod level;
 mod may;
 mod naming;
 mod near;
+mod order;
 mod raising;
 mod roots;
 mod rules;
@@ -41,6 +43,7 @@ pub use laws::{
     other_groups_change_no_list,
 };
 pub use level::Level;
+pub use order::user_name;
 pub use roots::{Root, roots_on};
 pub use rules::Rules;
 pub use state::State;

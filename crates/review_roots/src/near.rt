@@ -2,19 +2,41 @@
 //! that asks for nobody else's.
 ghost use Rattle.std.specs.Prelude.{◌≡◌, All, IfOk, IsTrue, false, get_or, length, map, true};
 ghost use Rattle.review_roots.specs.Ranks.{is_at_least};
-ghost use Rattle.review_roots.specs.Body.Found.{AreNearTo, AreUnentered, IsCandidate, IsUnentered, asking_of, is_asking, marked};
+ghost use Rattle.review_roots.specs.Ways.{adds_groups as spec_adds_groups};
+ghost use Rattle.review_roots.specs.Body.Found.{IsTurning};
+ghost use Rattle.review_roots.specs.Body.Found.{AreDeep, AreNearTo, AreUnentered, IsCandidate, IsUnentered, asking_of, is_asking, marked};
 
 use crate::Level;
 use crate::candidate::Candidate;
 use crate::given::Counted;
 use crate::host::HostSteps;
-use crate::search::{Aim, Found, Sought, draw_to, heard, is_reached_by};
+use crate::layer::{aims_of, draw};
+use crate::search::{Aim, Found, Sought, found_at, heard, is_reached_by};
 use crate::state::State;
 use std::alloc::{AllocError, Global};
 
-/// Returns the states of the candidates with a step of the level, of any kind, to one of those that are found; of those with which a chain
-/// may begin. Returns `AllocError` if allocation fails.
-pub(crate) fn near_states(
+/// Where chains of a level turn to the target by steps of one user: for each user whether a step of one of its states, of any kind, leads
+/// to one from which a chain of steps leads that may go without a password; the states of those steps; and what a search by steps of one
+/// such user begins with.
+#[derive(Drop)]
+pub(crate) struct Turning<'r> {
+    pub(crate) near: Vec<bool>,
+    pub(crate) near_states: Vec<Found>,
+    pub(crate) wanted: Vec<bool>,
+    pub(crate) goals: Vec<Found>,
+    pub(crate) asking: Vec<&'r Candidate>,
+}
+
+/// Whether groups may be added on the way.
+pub(crate) fn adds_groups(steps: &HostSteps<'_, '_>) -> bool
+    ensures { result ≡ spec_adds_groups steps.now }
+{
+    steps.groups.len() > 0
+}
+
+// Returns the states of the candidates with a step of the level, of any kind, to one of those that are found; of those with which a chain
+// may begin.
+fn near_states(
     alloc: Global,
     steps: &HostSteps<'_, '_>,
     target: usize,
@@ -23,24 +45,17 @@ pub(crate) fn near_states(
     found: &[Found],
 ) -> Result<Vec<Found>, AllocError>
     requires level { IsTrue (is_at_least steps.now.least level) }
+    requires deep { AreDeep found.now }
     ensures { IfOk result (λ near. AreNearTo steps.now target level starts.now found.now near.items) }
 {
     let sought = Sought {
         target,
         counted: Counted::Any,
     };
-    let mut left = heard(alloc, steps, sought, starts)?;
+    let left = heard(alloc, steps, sought, starts)?;
+    let aims = aims_of(alloc, steps, sought, level, found, 0)?;
     let mut near = Vec::new(alloc);
-    for index in 0..found.len() {
-        let aim = Aim {
-            index,
-            state: found[index].state,
-            level,
-            counted: Counted::Any,
-            steps: 0,
-        };
-        left = draw_to(alloc, steps, aim, &left, &mut near)?;
-    }
+    draw(alloc, steps, &aims, &left, &mut near)?;
     Ok(near)
 }
 
@@ -72,12 +87,8 @@ fn mark_all(marks: &mut [bool], found: &[Found])
     }
 }
 
-/// Returns for each user whether it is that of one of these states. Returns `AllocError` if allocation fails.
-pub(crate) fn users_of(
-    alloc: Global,
-    users: usize,
-    found: &[Found],
-) -> Result<Vec<bool>, AllocError>
+// Returns for each user whether it is that of one of these states.
+fn users_of(alloc: Global, users: usize, found: &[Found]) -> Result<Vec<bool>, AllocError>
     ensures { IfOk result (λ marks. All (λ f. get_or marks.items f.state.user true ≡ true)
         found.now) }
 {
@@ -99,9 +110,9 @@ fn is_wanted(
     }
 }
 
-/// Returns for each user whether a chain may be sought by its own steps: whether it is marked, and has a start, but none by steps that
-/// may go without a password. Returns `AllocError` if allocation fails.
-pub(crate) fn wanted_of(
+// Returns for each user whether a chain may be sought by its own steps: whether it is marked, and has a start, but none by steps that
+// may go without a password.
+fn wanted_of(
     alloc: Global,
     starts: &[Option<usize>],
     unasked: &[Option<usize>],
@@ -140,8 +151,8 @@ fn is_asking(
             || steps.may_count(candidate, Counted::Unasked))
 }
 
-/// Returns the candidates that may be on the way from a marked user. Returns `AllocError` if allocation fails.
-pub(crate) fn asking<'r>(
+// Returns the candidates that may be on the way from a marked user.
+fn asking<'r>(
     alloc: Global,
     steps: &HostSteps<'r, '_>,
     target: usize,
@@ -157,6 +168,40 @@ pub(crate) fn asking<'r>(
         }
     }
     Ok(asking)
+}
+
+/// Returns where chains turn to the target by steps of one user, of those that are found, or `None` where groups may be added: one's own
+/// password counts as another's there. Returns `AllocError` if allocation fails.
+pub(crate) fn turning_of<'r>(
+    alloc: Global,
+    steps: &HostSteps<'r, '_>,
+    target: usize,
+    level: Level,
+    starts: &[Option<usize>],
+    unasked: &[Found],
+    unasked_starts: &[Option<usize>],
+) -> Result<Option<Turning<'r>>, AllocError>
+    requires level { IsTrue (is_at_least steps.now.least level) }
+    requires deep { AreDeep unasked.now }
+    ensures { IfOk result (λ turning. IsTurning steps.now target level starts.now unasked.now
+        turning) }
+{
+    if adds_groups(steps) {
+        return Ok(None);
+    }
+    let users = steps.directory.people().len();
+    let near_states = near_states(alloc, steps, target, level, starts, unasked)?;
+    let near = users_of(alloc, users, &near_states)?;
+    let wanted = wanted_of(alloc, starts, unasked_starts, &near)?;
+    let goals = found_at(alloc, steps, target)?;
+    let asking = asking(alloc, steps, target, &wanted)?;
+    Ok(Some(Turning {
+        near,
+        near_states,
+        wanted,
+        goals,
+        asking,
+    }))
 }
 
 // Whether the near state is the user's, and has no added group, or a step of a candidate that counts for the user leads to it.

@@ -5,7 +5,7 @@ ghost use Rattle.review_roots.specs.Ranks.{is_at_least};
 ghost use Rattle.review_roots.specs.Sought.{any_steps, free_steps, unasked_steps};
 ghost use Rattle.review_roots.specs.States.{state_with};
 ghost use Rattle.review_roots.specs.Ways.{IsChain, IsWay, adds_groups as spec_adds_groups};
-ghost use Rattle.review_roots.specs.Body.Found.{AreLevels, ChainsLead, IsBest, IsFoundAt, any_sought, is_start};
+ghost use Rattle.review_roots.specs.Body.Found.{AreLevels, ChainsLead, IsBest, IsFoundAt, TurningLeads, any_sought, is_start};
 ghost use Rattle.review_roots.specs.Roots.{AreRoots, IsRootAt, IsNoRoot, has_zero};
 ghost use Rattle.review_roots.specs.declared.chains.Chains.{Chains as TheChains};
 ghost use Rattle.review_roots.specs.declared.level.Level.TheVariants as level;
@@ -14,7 +14,7 @@ use crate::Level;
 use crate::chains::{Chains, Levels, levels_of};
 use crate::given::Counted;
 use crate::host::HostSteps;
-use crate::near::{is_near, may_turn};
+use crate::near::{Turning, is_near, may_turn};
 use crate::search::{Found, Sought, found_among, found_of};
 use crate::starts::start_at;
 use crate::state::State;
@@ -59,13 +59,6 @@ fn start_index(found: &[Found], user: usize) -> Option<usize>
     None
 }
 
-// Whether groups may be added on the way.
-fn adds_groups(steps: &HostSteps<'_, '_>) -> bool
-    ensures { result ≡ spec_adds_groups steps.now }
-{
-    steps.groups.len() > 0
-}
-
 // Returns a chain from the user of the level that asks for nobody else's password, or else this one.
 fn own_way(
     alloc: Global,
@@ -73,11 +66,14 @@ fn own_way(
     target: usize,
     level: Level,
     chains: &Chains<'_>,
+    turning: &Turning<'_>,
     user: usize,
     way: Way,
 ) -> Result<Way, AllocError>
     requires lead { ChainsLead steps.now target level chains.now }
-    requires wanted { get_or chains.now.wanted.items user true ≡ true }
+    requires turning { TurningLeads steps.now target level chains.now.any_starts.items
+        chains.now.unasked.items turning.now }
+    requires wanted { get_or turning.now.wanted.items user true ≡ true }
     requires known { user < length steps.now.directory.now.people }
     requires alone { spec_adds_groups steps.now ≡ false }
     requires best { IsBest steps.now target level user }
@@ -92,7 +88,7 @@ fn own_way(
         target,
         counted: Counted::Own(user),
     };
-    let own = found_among(alloc, steps, sought, level, &chains.goals, &chains.asking)?;
+    let own = found_among(alloc, steps, sought, level, &turning.goals, &turning.asking)?;
     match start_index(&own, user) {
         Some(index) => way_of(alloc, steps, level, &own, index),
         None => Ok(way),
@@ -137,11 +133,14 @@ fn turning_way(
     target: usize,
     level: Level,
     chains: &Chains<'_>,
+    turning: &Turning<'_>,
     user: usize,
     way: Way,
 ) -> Result<Way, AllocError>
     requires lead { ChainsLead steps.now target level chains.now }
-    requires wanted { get_or chains.now.wanted.items user true ≡ true }
+    requires turning { TurningLeads steps.now target level chains.now.any_starts.items
+        chains.now.unasked.items turning.now }
+    requires wanted { get_or turning.now.wanted.items user true ≡ true }
     requires away { user ≡ target → ⊥ }
     requires known { user < length steps.now.directory.now.people }
     requires alone { spec_adds_groups steps.now ≡ false }
@@ -158,12 +157,12 @@ fn turning_way(
         steps,
         level,
         user,
-        &chains.asking,
-        &chains.near_states,
+        &turning.asking,
+        &turning.near_states,
     )? {
         return Ok(way);
     }
-    own_way(alloc, steps, target, level, chains, user, way)
+    own_way(alloc, steps, target, level, chains, turning, user, way)
 }
 
 // Returns the chain of a found state that is the user without an added group, where each chain of the level asks for a password: one
@@ -191,14 +190,14 @@ fn asking_way(
     if !way.password.is_other() {
         return Ok(way);
     }
-    if adds_groups(steps) {
+    let Some(turning) = &chains.turning else {
+        return Ok(way);
+    };
+    if !is_near(&turning.near, user) {
         return Ok(way);
     }
-    if !is_near(&chains.near, user) {
-        return Ok(way);
-    }
-    if is_near(&chains.wanted, user) {
-        turning_way(alloc, steps, target, level, chains, user, way)
+    if is_near(&turning.wanted, user) {
+        turning_way(alloc, steps, target, level, chains, turning, user, way)
     } else {
         plain_way(alloc, steps, target, level, user, way)
     }
@@ -374,7 +373,8 @@ fn root_of(
 ///
 /// The chain that is given has the best level of all from the user, however long. Of those of that level none asks for less: it
 /// asks for no password, if one does not; otherwise its steps may go without, if those of one may; otherwise, where no group may
-/// be added, it asks for the user's own alone, if one does. Of those of that level that ask for no more none has fewer steps.
+/// be added, it asks for the user's own alone, if one does. Of those of that level that ask for no more none has fewer steps, and of those
+/// that have no more it is the first, by the names of the users of its states, and then by their added groups.
 /// From a user that is not among them no chain of the least level leads to the target, however long.
 ///
 /// Returns `AllocError` if allocation fails.

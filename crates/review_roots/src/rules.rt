@@ -1,9 +1,10 @@
 //! The rows of a policy, with the users that may take steps, on all hosts.
 ghost use Rattle.std.specs.Prelude.{◌≡◌, ◌++◌, ◌∷◌, [], List, IfOk, IsTrue, None, OnOk};
 ghost use Rattle.std.specs.List.{list_all};
-ghost use Rattle.sudo_match.specs.KnownRows.{directory_fault};
+ghost use Rattle.sudo_match.specs.KnownRows.{KnownRows, directory_fault};
 ghost use Rattle.review_roots.specs.Blocks.{AreBlocks, block_resolves};
-ghost use Rattle.review_roots.specs.Body.Candidates.{AreCandidates};
+ghost use Rattle.review_roots.specs.Body.Candidates.{AreCandidates, has_state, states_of};
+ghost use Rattle.review_roots.specs.Order.{IsInOrder};
 ghost use Rattle.review_roots.specs.Body.Kept.{kept_states};
 ghost use Rattle.review_roots.specs.Body.Naming.{AreRows, IsBase};
 ghost use Rattle.review_roots.specs.Body.Raising.{block_raises, indices};
@@ -20,6 +21,7 @@ use crate::candidate::{Candidate, hopeful};
 use crate::ground::Ground;
 use crate::kept::kept_states;
 use crate::naming::naming;
+use crate::order::sort_states;
 use crate::raising::raising_of;
 use crate::state::State;
 use crate::unnamed::named_ids;
@@ -45,7 +47,7 @@ pub struct Rules<'a> {
     pub(crate) raising: Vec<usize>,
     // The IDs of the groups that a list names.
     pub(crate) ids: Vec<u32>,
-    // The states that stand for all.
+    // The states that stand for all, in their order.
     pub(crate) states: Vec<State>,
     pub(crate) candidates: Vec<Candidate>,
     // For each user, the index of its candidate without an added group, if any.
@@ -57,7 +59,10 @@ pub struct Rules<'a> {
     ghost covered: { AreCandidates checked.now directory.now groups.now least blocks.items
         states.items candidates.items },
     ghost unnamed: { AreIds checked.now groups.now ids.items },
-    ghost kept: { states.items ≡ kept_states directory.now groups.now ids.items },
+    ghost kept: { (s : TheState) → has_state states.items s
+        ≡ has_state (kept_states directory.now groups.now ids.items) s },
+    ghost states_order: { IsInOrder directory.now states.items },
+    ghost candidates_order: { IsInOrder directory.now (states_of candidates.items) },
     ghost faultless: { directory_fault directory.now.people directory.now.machines ≡ None },
 }
 
@@ -66,6 +71,13 @@ pub struct Rules<'a> {
 struct Gathered {
     candidates: Vec<Candidate>,
     places: Vec<Option<usize>>,
+}
+
+// Notes the index of the candidate of a state, if it has no added group.
+fn set_place(places: &mut [Option<usize>], state: State, index: usize) {
+    if state.added.is_none() && state.user < places.len() {
+        places[state.user] = Some(index);
+    }
 }
 
 // Appends the candidate of a state, if it may take a step.
@@ -87,28 +99,33 @@ fn gather_state(
         → AreCandidates ground.entry.checked.now ground.entry.directory.now
         ground.entry.groups.now ground.entry.least ground.entry.blocks.now
         (before ++ state ∷ []) gathered.new.candidates.items) }
+    ensures order { OnOk result ((d : KnownRows) (after : List TheState) → IsInOrder d
+        (states_of gathered.old.candidates.items ++ state ∷ after)
+        → IsInOrder d (states_of gathered.new.candidates.items ++ after)) }
 {
-    match hopeful(alloc, ground, rows, base, state)? {
-        Some(candidate) => {
-            gathered.places.push(Some(gathered.candidates.len()))?;
-            gathered.candidates.push(candidate)?;
-        }
-        None => gathered.places.push(None)?,
+    if let Some(candidate) = hopeful(alloc, ground, rows, base, state)? {
+        let index = gathered.candidates.len();
+        set_place(gathered.places.as_mut_slice(), state, index);
+        gathered.candidates.push(candidate)?;
     }
     Ok(())
 }
 
 // Returns the candidates of the states.
 fn gather(alloc: Global, ground: Ground<'_, '_>, states: &[State]) -> Result<Gathered, AllocError>
-    ensures { IfOk result (λ gathered. AreCandidates ground.entry.checked.now
+    ensures candidates { IfOk result (λ gathered. AreCandidates ground.entry.checked.now
         ground.entry.directory.now ground.entry.groups.now ground.entry.least
         ground.entry.blocks.now states.now gathered.candidates.items) }
+    ensures order { IfOk result (λ gathered. (d : KnownRows) → IsInOrder d states.now
+        → IsInOrder d (states_of gathered.candidates.items)) }
 {
     let rows = naming(alloc, ground)?;
     let mut base = base_of(alloc, ground, 0)?;
+    let mut places = Vec::new(alloc);
+    places.resize(ground.directory.people().len(), None)?;
     let mut gathered = Gathered {
         candidates: Vec::new(alloc),
-        places: Vec::new(alloc),
+        places,
     };
     for state in states {
         gather_state(alloc, ground, &rows, *state, &mut base, &mut gathered)?;
@@ -144,7 +161,8 @@ impl<'a> Rules<'a> {
         };
         directory.has_no_fault();
         let ids = named_ids(alloc, checked, &blocks, groups)?;
-        let states = kept_states(alloc, directory, groups, &ids)?;
+        let mut states = kept_states(alloc, directory, groups, &ids)?;
+        sort_states(directory, &mut states)?;
         let Gathered { candidates, places } = gather(alloc, ground, &states)?;
         Ok(Rules {
             checked,

@@ -3,8 +3,9 @@ ghost use Rattle.std.specs.Prelude.{◌≡◌, ◌<◌, ◌+◌, ◌++◌, ◌==
 ghost use Rattle.std.specs.Prelude.{None, Some, false};
 ghost use Rattle.review_roots.specs.Sought.{steps_of};
 ghost use Rattle.review_roots.specs.Body.Candidates.{states_of};
-ghost use Rattle.review_roots.specs.Body.Found.{AreDeep, AreFound, AreGiven, HaveNoChain, IsCandidate, IsDrawn, IsSearch};
-ghost use Rattle.review_roots.specs.Body.Found.{found_by, found_there, goals_of, is_left, kept_steps, may_start, reaches};
+ghost use Rattle.review_roots.specs.Body.Found.{AreDeep, AreFound, AreGiven, AreOrdered, HaveNoChain, IsCandidate, IsDrawn};
+ghost use Rattle.review_roots.specs.Body.Found.{IsSearch};
+ghost use Rattle.review_roots.specs.Body.Found.{found_there, goals_of, is_left, kept_steps, may_start, reaches};
 ghost use Rattle.review_roots.specs.Body.Towards.{IsToward};
 ghost use Rattle.review_roots.specs.Ranks.{is_at_least};
 ghost use Rattle.review_roots.specs.Ways.{step_on};
@@ -15,6 +16,7 @@ use crate::Level;
 use crate::candidate::Candidate;
 use crate::given::{Counted, Given, NOTHING};
 use crate::host::HostSteps;
+use crate::layer::{aims_of, draw};
 use crate::state::State;
 use crate::toward::Toward;
 use std::alloc::{AllocError, Global};
@@ -47,8 +49,8 @@ pub(crate) struct Aim {
     pub(crate) steps: usize,
 }
 
-// Returns what the step of the candidate to the state gives, if it has the level or a better one.
-fn reached(
+/// Returns what the step of the candidate to the state of the aim gives, if it has the level or a better one.
+pub(crate) fn reached(
     steps: &HostSteps<'_, '_>,
     aim: Aim,
     toward: &Toward,
@@ -76,41 +78,6 @@ fn reached(
     }
 }
 
-// Moves the candidates with a step to the aim to those that are found, and returns the others.
-fn draw<'c>(
-    alloc: Global,
-    steps: &HostSteps<'_, '_>,
-    aim: Aim,
-    toward: &Toward,
-    left: &[&'c Candidate],
-    found: &mut Vec<Found>,
-) -> Result<Vec<&'c Candidate>, AllocError>
-    requires level { IsTrue (is_at_least steps.now.least aim.level) }
-    requires candidates { All (IsCandidate steps.now) (map (λ c. c.now) left.now) }
-    requires state { toward.now.state ≡ aim.state }
-    requires toward { IsToward steps.now.checked.now steps.now.directory.now steps.now.groups.now
-        steps.now.blocks.now toward.now.state toward.now }
-    ensures kept { IfOk result (λ kept. map (λ c. c.now) kept.items
-        ≡ filter (λ c. not (reaches steps.now aim c)) (map (λ c. c.now) left.now)) }
-    ensures found { OnOk result (found.new.items ≡ found.old.items
-        ++ map (found_by steps.now aim)
-        (filter (reaches steps.now aim) (map (λ c. c.now) left.now))) }
-{
-    let mut kept = Vec::new(alloc);
-    for candidate in left {
-        match reached(steps, aim, toward, candidate) {
-            Some(given) => found.push(Found {
-                state: candidate.state,
-                steps: aim.steps,
-                next: Some(aim.index),
-                given,
-            })?,
-            None => kept.push(*candidate)?,
-        }
-    }
-    Ok(kept)
-}
-
 // Whether no candidate is left.
 fn is_none(left: &[&Candidate]) -> bool
     ensures { result ≡ true → left.now ≡ [] }
@@ -121,37 +88,8 @@ fn is_none(left: &[&Candidate]) -> bool
     }
 }
 
-/// Moves the candidates with a step to the aim to those that are found, and returns the others. Returns `AllocError` if allocation
-/// fails.
-pub(crate) fn draw_to<'c>(
-    alloc: Global,
-    steps: &HostSteps<'_, '_>,
-    aim: Aim,
-    left: &[&'c Candidate],
-    found: &mut Vec<Found>,
-) -> Result<Vec<&'c Candidate>, AllocError>
-    requires level { IsTrue (is_at_least steps.now.least aim.level) }
-    requires candidates { All (IsCandidate steps.now) (map (λ c. c.now) left.now) }
-    ensures kept { IfOk result (λ kept. map (λ c. c.now) kept.items
-        ≡ filter (λ c. not (reaches steps.now aim c)) (map (λ c. c.now) left.now)) }
-    ensures found { OnOk result (found.new.items ≡ found.old.items
-        ++ map (found_by steps.now aim)
-        (filter (reaches steps.now aim) (map (λ c. c.now) left.now))) }
-{
-    if is_none(left) {
-        return Ok(Vec::new(alloc));
-    }
-    match steps.known(aim.state) {
-        Some(known) => draw(alloc, steps, aim, &known.toward, left, found),
-        None => {
-            let toward = steps.toward(alloc, aim.state)?;
-            draw(alloc, steps, aim, &toward, left, found)
-        }
-    }
-}
-
 // Finds the candidates from which steps of the level, or of a better one, lead to what is found, those with the shortest chains first,
-// and returns the others.
+// and of these each with the first one, and returns the others.
 fn spread<'c>(
     alloc: Global,
     steps: &HostSteps<'_, '_>,
@@ -167,29 +105,22 @@ fn spread<'c>(
     ensures candidates { IfOk result (λ rest. All (IsCandidate steps.now)
         (map (λ c. c.now) rest.items)) }
     ensures given { OnOk result (AreGiven steps.now found.new.items) }
-    ensures search { IfOk result (λ rest. (k : TheLevel) → IsSearch (kept_steps steps.now sought) k
-        level 0 found.old.items (states_of (map (λ c. c.now) left.entry.items))
-        → IsSearch (kept_steps steps.now sought) k level (length found.new.items)
-        found.new.items (states_of (map (λ c. c.now) rest.items))) }
+    ensures deep { OnOk result (AreDeep found.new.items) }
+    ensures search { IfOk result (λ rest. (k : TheLevel) → IsSearch steps.now.directory.now
+        (kept_steps steps.now sought) k level 0 found.old.items
+        (states_of (map (λ c. c.now) left.entry.items))
+        → IsSearch steps.now.directory.now (kept_steps steps.now sought) k level
+        (length found.new.items) found.new.items (states_of (map (λ c. c.now) rest.items))) }
 {
     let mut left = left;
-    let mut index = 0;
-    while index < found.len() {
-        let Found {
-            state,
-            steps: count,
-            next: _,
-            given: _,
-        } = found[index];
-        let aim = Aim {
-            index,
-            state,
-            level,
-            counted: sought.counted,
-            steps: count + 1,
-        };
-        left = draw_to(alloc, steps, aim, &left, found)?;
-        index += 1;
+    let mut start = 0;
+    while start < found.len() {
+        if is_none(&left) {
+            return Ok(left);
+        }
+        let aims = aims_of(alloc, steps, sought, level, found, start)?;
+        start = found.len();
+        left = draw(alloc, steps, &aims, &left, found)?;
     }
     Ok(left)
 }
@@ -271,7 +202,7 @@ pub(crate) struct Reach<'c> {
 }
 
 /// Returns the states from which a chain of the steps that count, of the level or a better one, leads to the target, each with a
-/// shortest such chain; and the candidates that are left. A user without a start is passed over.
+/// shortest such chain, of several the first; and the candidates that are left. A user without a start is passed over.
 ///
 /// Returns `AllocError` if allocation fails.
 pub(crate) fn spread_of<'r>(
@@ -285,10 +216,12 @@ pub(crate) fn spread_of<'r>(
     ensures candidates { IfOk result (λ spread. All (IsCandidate steps.now)
         (map (λ c. c.now) spread.left.items)) }
     ensures given { IfOk result (λ spread. AreGiven steps.now spread.found.items) }
+    ensures deep { IfOk result (λ spread. AreDeep spread.found.items) }
     ensures search { IfOk result (λ spread. (k : TheLevel) → is_at_least steps.now.least k ≡ true
         → is_at_least k level ≡ true → HaveNoChain steps.now sought.target k starts.now
-        → IsSearch (kept_steps steps.now sought) k level (length spread.found.items)
-        spread.found.items (states_of (map (λ c. c.now) spread.left.items))) }
+        → IsSearch steps.now.directory.now (kept_steps steps.now sought) k level
+        (length spread.found.items) spread.found.items
+        (states_of (map (λ c. c.now) spread.left.items))) }
 {
     let mut found = found_at(alloc, steps, sought.target)?;
     let left = heard(alloc, steps, sought, starts)?;
@@ -297,7 +230,7 @@ pub(crate) fn spread_of<'r>(
 }
 
 /// Returns the states from which a chain of the steps that count, of the level or a better one, leads to the target, each with a
-/// shortest such chain. A user without a start is passed over.
+/// shortest such chain, of several the first. A user without a start is passed over.
 ///
 /// Returns `AllocError` if allocation fails.
 pub(crate) fn found_of(
@@ -312,6 +245,8 @@ pub(crate) fn found_of(
     ensures found { IfOk result (λ found. AreFound (steps_of steps.now sought) steps.now.states.now
         level found.items) }
     ensures given { IfOk result (λ found. AreGiven steps.now found.items) }
+    ensures deep { IfOk result (λ found. AreDeep found.items) }
+    ensures order { IfOk result (λ found. AreOrdered steps.now sought level found.items) }
 {
     let Reach { found, left: _ } = spread_of(alloc, steps, sought, level, starts)?;
     Ok(found)
@@ -365,6 +300,7 @@ pub(crate) fn found_among(
     ensures found { IfOk result (λ found. AreFound (steps_of steps.now sought) steps.now.states.now
         level found.items) }
     ensures given { IfOk result (λ found. AreGiven steps.now found.items) }
+    ensures order { IfOk result (λ found. AreOrdered steps.now sought level found.items) }
 {
     let mut found = copied(alloc, goals)?;
     let left = heard_of(alloc, steps, sought, candidates)?;

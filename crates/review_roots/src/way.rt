@@ -2,8 +2,8 @@
 ghost use Rattle.std.specs.Prelude.{◌≡◌, ◌<◌, ◌≤◌, false, All, IfOk, Some, length, slice_get};
 ghost use Rattle.std.specs.List.{Contains};
 ghost use Rattle.review_roots.specs.Sought.{steps_of};
-ghost use Rattle.review_roots.specs.Body.Found.{AreFound, AreGiven, PointBack, found_states};
-ghost use Rattle.review_roots.specs.Body.Passing.{HasMarks, HasPassword, HasRow, LeadsWhole};
+ghost use Rattle.review_roots.specs.Body.Found.{AreFound, AreGiven, AreOrdered, PointBack, found_states};
+ghost use Rattle.review_roots.specs.Body.Passing.{HasMarks, HasPassword, HasRow, IsAlong, LeadsWhole};
 ghost use Rattle.review_roots.specs.Ways.{IsChain, password_name, password_rank, step_password, worse};
 ghost use Rattle.review_roots.specs.declared.search.Found.{Found as TheFound};
 ghost use Rattle.review_roots.specs.declared.search.Sought.{Sought as TheSought};
@@ -112,6 +112,7 @@ fn trace(alloc: Global, found: &[Found], index: usize, user: usize) -> Result<Tr
     ensures leads { IfOk result (λ traced. LeadsWhole found.now index traced.chain.items) }
     ensures inside { IfOk result (λ traced. All (Contains (found_states found.now))
         traced.chain.items) }
+    ensures along { IfOk result (λ traced. IsAlong found.now index traced.chain.items) }
     ensures row { IfOk result (λ traced. HasRow found.now index traced.chain.items) }
     ensures password { IfOk result (λ traced. HasPassword found.now user index traced.chain.items
         traced.password) }
@@ -154,7 +155,7 @@ pub(crate) fn way_of(
     requires inside { index < length found.now }
     ensures { IfOk result (λ way. (way.level ≡ level) × ((q : TheSought) (f : TheFound)
         → AreFound (steps_of steps.now q) steps.now.states.now level found.now
-        → slice_get found.now index ≡ Some f
+        → AreOrdered steps.now q level found.now → slice_get found.now index ≡ Some f
         → IsChain steps.now q f.state way)) }
 {
     let Found {

@@ -1,6 +1,7 @@
 -- The states that are found to lead to a target, and what is known of those that are left.
 use Rattle.std.specs.Prelude.{◌≡◌, ◌<◌, ◌≤◌, ◌+◌, ◌⊎◌, ◌&&◌, ◌||◌, ◌==◌, ℕ, Bool, true, false, not, if◌then◌else◌, is_some, List, All}
-use Rattle.std.specs.Prelude.{Option, Some, None, filter, get_or, length, map, nat_lt, set, slice_get, take}
+use Rattle.std.specs.Prelude.{[], ◌∷◌, Option, Some, None, drop, filter, get_or, length, map, nat_lt, set, slice_get, take}
+use Rattle.std.specs.Ordering.{is_gt}
 use Rattle.std.specs.List.{Contains}
 use Rattle.review_roots.specs.declared.level.Level.{Level}
 use Rattle.review_roots.specs.declared.level.Level.TheVariants as level
@@ -8,7 +9,13 @@ use Rattle.review_roots.specs.declared.given.Counted.{Counted}
 use Rattle.review_roots.specs.declared.given.Counted.TheVariants as counted
 use Rattle.review_roots.specs.declared.host.HostSteps.{HostSteps}
 use Rattle.review_roots.specs.declared.candidate.Candidate.{Candidate}
+use Rattle.sudo_match.specs.KnownRows.{KnownRows}
+use Rattle.review_roots.specs.declared.layer.Aimed.{Aimed}
+use Rattle.review_roots.specs.declared.layer.AnyToward.{AnyToward}
+use Rattle.review_roots.specs.declared.layer.AnyToward.TheVariants as toward
+use Rattle.review_roots.specs.declared.near.Turning.{Turning}
 use Rattle.review_roots.specs.declared.search.Aim.{Aim}
+use Rattle.review_roots.specs.declared.toward.Toward.{Toward}
 use Rattle.review_roots.specs.declared.chains.Chains.{Chains}
 use Rattle.review_roots.specs.declared.chains.Levels.{Levels}
 use Rattle.review_roots.specs.declared.search.Found.{Found}
@@ -17,12 +24,14 @@ use Rattle.review_roots.specs.declared.search.Reach.{Reach}
 use Rattle.review_roots.specs.declared.state.State.{State}
 use Rattle.review_roots.specs.Body.Candidates.{Qualifies, is_heard, states_of}
 use Rattle.review_roots.specs.Body.May.{may_count}
+use Rattle.review_roots.specs.Body.Towards.{IsToward}
+use Rattle.review_roots.specs.Order.{IsInOrder, state_cmp}
 use Rattle.review_roots.specs.Sought.{any_steps, free_steps, steps_of, unasked_steps}
 use Rattle.review_roots.specs.Chains.{Steps, Path, HasPath, HasNoPath}
 use Rattle.review_roots.specs.Ranks.{rank, is_at_least}
 use Rattle.review_roots.specs.States.{level_for, state_with, step_given}
 use Rattle.review_roots.specs.Asked.{nothing}
-use Rattle.review_roots.specs.Ways.{step_on}
+use Rattle.review_roots.specs.Ways.{adds_groups, step_on}
 
 -- the steps on the host that are sought, between the states that are kept
 abbrev pub kept_steps : HostSteps → Sought → Steps State
@@ -103,6 +112,24 @@ pub record AreFound (g : Steps State) (states : List State) (l : Level) (found :
   pub linked : AreLinked g l found
   pub complete : IsComplete g states l found
 
+-- the first step of a found state leads to the first found state to which one of the level leads
+abbrev pub AreFirst : Steps State → Level → List Found → Type 0
+AreFirst g l found =
+    (i next k : ℕ) (f e : Found) → slice_get found i ≡ Some f → f.next ≡ Some next → k < next → slice_get found k ≡ Some e →
+    is_at_least l (g.level f.state e.state) ≡ false
+
+-- of the found states whose chains have as many steps, none goes behind one that was found later
+abbrev pub AreSorted : KnownRows → List Found → Type 0
+AreSorted d found =
+    (i k : ℕ) (f e : Found) → i < k → slice_get found i ≡ Some f → slice_get found k ≡ Some e → f.steps ≡ e.steps →
+    is_gt (state_cmp d f.state e.state) ≡ false
+
+-- each of the found states, which are kept ones, has the first of its shortest chains
+pub record AreOrdered (h : HostSteps) (q : Sought) (l : Level) (found : List Found) : Type 0 where
+  pub kept : All (λ f. Contains h.states.now f.state) found
+  pub first : AreFirst (steps_of h q) l found
+  pub sorted : AreSorted h.directory.now found
+
 -- the user without an added group
 abbrev pub is_start : ℕ → State → Bool
 is_start user s = (s.user == user) && not (is_some s.added)
@@ -166,6 +193,13 @@ pub record AreChains (h : HostSteps) (c : Chains) : Type 0 where
   pub free_starts : AreStarts c.free.items c.free_starts.items
   pub free_users : length c.free_starts.items ≡ length h.directory.now.people
 
+-- the steps towards the target that may go without a password, and those that ask for none
+abbrev pub unasked_sought : ℕ → Sought
+unasked_sought target = record { target = target; counted = counted.Unasked }
+
+abbrev pub free_sought : ℕ → Sought
+free_sought target = record { target = target; counted = counted.Free }
+
 -- a state at the goal
 abbrev pub found_there : State → Found
 found_there s = record { state = s; steps = 0; next = None; given = nothing }
@@ -191,18 +225,31 @@ is_asking h target near c =
 abbrev pub asking_of : HostSteps → ℕ → List Bool → List Candidate
 asking_of h target near = filter (is_asking h target near) h.candidates.now
 
--- the chains of a level to a target, by any steps, by steps that may go without a password, and by steps that ask for none; and the
--- users from which a step of any kind leads to where one begins whose steps may go without
+-- where chains turn to the target by steps of one user
+pub record TurningLeads (h : HostSteps) (target : ℕ) (l : Level) (starts : List (Option ℕ)) (unasked : List Found) (t : Turning) : Type 0
+  where
+    pub near : AreNear h target l starts unasked t.near.items
+    pub near_states : AreNearTo h target l starts unasked t.near_states.items
+    pub goals : t.goals.items ≡ goals_of h target
+    pub asking : map (λ c. c.now) t.asking.items ≡ asking_of h target t.wanted.items
+
+-- it is not sought where groups may be added
+abbrev pub IsTurning : HostSteps → ℕ → Level → List (Option ℕ) → List Found → Option Turning → Type 0
+IsTurning h target l starts unasked None = adds_groups h ≡ true
+IsTurning h target l starts unasked (Some t) = (adds_groups h ≡ false) × TurningLeads h target l starts unasked t
+
+-- the chains of a level to a target, by any steps, by steps that may go without a password, and by steps that ask for none; and where
+-- chains turn by steps of one user
 pub record ChainsLead (h : HostSteps) (target : ℕ) (l : Level) (c : Chains) : Type 0 where
   pub level : is_at_least h.least l ≡ true
   pub any : AreFound (any_steps h target) h.states.now l c.any.items
   pub unasked : AreFound (unasked_steps h target) h.states.now l c.unasked.items
   pub free : AreFound (free_steps h target) h.states.now l c.free.items
-  pub near : AreNear h target l c.any_starts.items c.unasked.items c.near.items
+  pub any_order : AreOrdered h (any_sought target) l c.any.items
+  pub unasked_order : AreOrdered h (unasked_sought target) l c.unasked.items
+  pub free_order : AreOrdered h (free_sought target) l c.free.items
   pub are : AreChains h c
-  pub goals : c.goals.items ≡ goals_of h target
-  pub asking : map (λ c. c.now) c.asking.items ≡ asking_of h target c.wanted.items
-  pub near_states : AreNearTo h target l c.any_starts.items c.unasked.items c.near_states.items
+  pub turning : IsTurning h target l c.any_starts.items c.unasked.items c.turning
 
 -- no further state has a chain of a lower level, if one has to be at least of the least; or these are the chains of it
 abbrev pub IsLower : HostSteps → ℕ → Level → List Found → Option Chains → Type 0
@@ -238,9 +285,9 @@ abbrev pub IsDrawn : Steps State → Level → ℕ → List Found → List State
 IsDrawn g l n found left =
     All (λ s. (k : ℕ) (f : Found) → k < n → slice_get found k ≡ Some f → is_at_least l (g.level s f.state) ≡ false) left
 
--- the first n found states have been drawn to; chains become longer along the list, and none is longer by more than a step than that
--- of the next one
-pub record IsSearch (g : Steps State) (least l : Level) (n : ℕ) (found : List Found) (left : List State) : Type 0 where
+-- the first n found states have been drawn to; the chains of all others have as many steps, and those of the first ones have fewer;
+-- found states and those that are left are in order
+pub record IsSearch (d : KnownRows) (g : Steps State) (least l : Level) (n : ℕ) (found : List Found) (left : List State) : Type 0 where
   pub level : is_at_least least l ≡ true
   pub right : All (IsFound g l) found
   pub linked : AreLinked g l found
@@ -248,8 +295,12 @@ pub record IsSearch (g : Steps State) (least l : Level) (n : ℕ) (found : List 
   pub inside : All (Contains g.states) left
   pub away : All (λ s. g.goal s ≡ false) left
   pub drawn : IsDrawn g l n found left
-  pub ordered : (i k : ℕ) (f e : Found) → i ≤ k → slice_get found i ≡ Some f → slice_get found k ≡ Some e → f.steps ≤ e.steps
-  pub close : (i : ℕ) (f t : Found) → slice_get found i ≡ Some f → slice_get found n ≡ Some t → f.steps ≤ t.steps + 1
+  pub depth : ℕ
+  pub before : (i : ℕ) (f : Found) → i < n → slice_get found i ≡ Some f → f.steps < depth
+  pub after : (i : ℕ) (f : Found) → n ≤ i → slice_get found i ≡ Some f → f.steps ≡ depth
+  pub first : AreFirst g l found
+  pub sorted : AreSorted d found
+  pub waiting : IsInOrder d left
 
 -- no chain has more steps than states were found before
 abbrev pub AreDeep : List Found → Type 0
@@ -268,6 +319,38 @@ reaches h aim c =
 abbrev pub found_by : HostSteps → Aim → Candidate → Found
 found_by h aim c = record { state = c.state; steps = aim.steps; next = Some aim.index; given = step_on h c.state aim.state }
 
+-- a found state as an aim
+abbrev pub aim_of : Sought → Level → ℕ → Found → Aim
+aim_of q l i f = record { index = i; state = f.state; level = l; counted = q.counted; steps = f.steps + 1 }
+
+-- found states as aims, the first one by this index
+abbrev pub aims_from : Sought → Level → ℕ → List Found → List Aim
+aims_from q l i [] = []
+aims_from q l i (f ∷ fs) = aim_of q l i f ∷ aims_from q l (i + 1) fs
+
+-- the found states from the n-th on as aims
+abbrev pub aims_at : Sought → Level → ℕ → List Found → List Aim
+aims_at q l n found = aims_from q l n (drop n found)
+
+-- the candidate as it is found by the first of the aims to which it has a step, if it has one
+abbrev pub first_of : HostSteps → List Aim → Candidate → Option Found
+first_of h [] c = None
+first_of h (aim ∷ aims) c = if reaches h aim c then Some (found_by h aim c) else first_of h aims c
+
+-- what steps to the state of an aim depend on
+abbrev pub any_toward : AnyToward → Toward
+any_toward (toward.Known t) = t.now
+any_toward (toward.Made t) = t
+
+-- it is what steps to the state depend on
+abbrev pub IsTowardOf : HostSteps → State → Toward → Type 0
+IsTowardOf h s t = (t.state ≡ s) × IsToward h.checked.now h.directory.now h.groups.now h.blocks.now t.state t
+
+-- the aim has the least level or a better one, and what steps to it depend on is known
+pub record IsAimed (h : HostSteps) (a : Aimed) : Type 0 where
+  pub level : is_at_least h.least a.aim.level ≡ true
+  pub toward : IsTowardOf h a.aim.state (any_toward a.toward)
+
 -- the state is not at the goal, and no step of the least level, or of a better one, leads from it
 abbrev pub IsMute : Steps State → Level → State → Type 0
 IsMute g least s =
@@ -282,6 +365,8 @@ pub record IsStartOf (h : HostSteps) (q : Sought) (least : Level) (found : List 
   pub away : All (λ c. (kept_steps h q).goal c.state ≡ false) left
   pub covered : All (λ s. Contains (found_states found) s ⊎ (Contains (states_of left) s ⊎ IsStuck (kept_steps h q) least s))
       (kept_steps h q).states
+  pub found_order : IsInOrder h.directory.now (found_states found)
+  pub left_order : IsInOrder h.directory.now (states_of left)
 
 -- ---- Searches by any steps, level by level
 
@@ -289,7 +374,7 @@ pub record IsStartOf (h : HostSteps) (q : Sought) (least : Level) (found : List 
 abbrev pub IsSpread : HostSteps → ℕ → Reach → Type 0
 IsSpread h target s =
     All (IsCandidate h) (map (λ c. c.now) s.left.items)
-    × ((l : Level) × IsSearch (kept_steps h (any_sought target)) h.least l (length s.found.items) s.found.items
+    × ((l : Level) × IsSearch h.directory.now (kept_steps h (any_sought target)) h.least l (length s.found.items) s.found.items
     (states_of (map (λ c. c.now) s.left.items)))
 
 -- the same of a level that is asked for
@@ -298,6 +383,7 @@ pub record IsSpreadAt (h : HostSteps) (target : ℕ) (l : Level) (s : Reach) : T
   pub spread : IsSpread h target s
   pub given : AreGiven h s.found.items
   pub found : AreFound (any_steps h target) h.states.now l s.found.items
+  pub order : AreOrdered h (any_sought target) l s.found.items
 
 abbrev pub IsSomeSpread : HostSteps → ℕ → Level → Option Reach → Type 0
 IsSomeSpread h target l None = Unit {0}

@@ -3,12 +3,14 @@
 use Rattle.std.specs.Prelude.{◌≡◌, ◌<◌, ◌⊎◌, ℕ, Bool, false, true, not, List, [], ◌∷◌, ◌++◌, All, find, flat_map, length, map, slice_get}
 use Rattle.std.specs.Prelude.{Option, Some, None}
 use Rattle.std.specs.List.{range_with_len, Contains}
+use Rattle.std.specs.Ordering.{is_gt}
 use Rattle.sudo_grammar.specs.declared.policy.Policy.{Policy}
 use Rattle.sudo_match.specs.declared.people.Group.{Group}
 use Rattle.sudo_match.specs.declared.people.Person.{Person}
 use Rattle.sudo_match.specs.KnownRows.{KnownRows}
 use Rattle.sudo_verdict.specs.RunasForms.{has_group}
 use Rattle.review_roots.specs.declared.state.State.{State}
+use Rattle.review_roots.specs.Order.{state_cmp}
 use Rattle.review_roots.specs.States.{all_states, group_at, state_with, states_with}
 use Rattle.review_roots.specs.Body.Unnamed.{AreIds, is_unnamed, named_indices, unnamed_indices}
 
@@ -75,11 +77,12 @@ abbrev pub kept_states : KnownRows → List Group → List ℕ → List State
 kept_states d groups ids =
     kept_by d groups (named_indices ids groups (length groups)) (unnamed_indices ids groups (length groups))
 
--- the states are among all, each other one is alike to one of them, and each user without an added group is there
+-- the states are among all, each other one is alike to one of them that does not go behind it, and each user without an added group is
+-- there
 pub record AreKept (p : Policy) (d : KnownRows) (groups : List Group) (kept : List State) : Type 0 where
   pub ids : List ℕ
   pub unnamed : AreIds p groups ids
   pub inside : All (Contains (all_states (length d.people) (length groups))) kept
   pub covers : (s : State) → Contains (all_states (length d.people) (length groups)) s
-      → (t : State) × (Contains kept t × AreAlike d groups ids s t)
+      → (t : State) × (Contains kept t × (AreAlike d groups ids s t × (is_gt (state_cmp d t s) ≡ false)))
   pub starts : (user : ℕ) → user < length d.people → Contains kept (state_with None user)

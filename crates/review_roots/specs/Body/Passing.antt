@@ -1,5 +1,5 @@
 -- What a chain asks for, as a program finds it along what was found; only proofs of bodies need these definitions.
-use Rattle.std.specs.Prelude.{◌≡◌, ℕ, List, Some, length, slice_get}
+use Rattle.std.specs.Prelude.{◌≡◌, ℕ, List, [], ◌∷◌, None, Some, length, slice_get}
 use Rattle.review_grants.specs.declared.marks.Marks.{Marks}
 use Rattle.review_roots.specs.declared.host.HostSteps.{HostSteps}
 use Rattle.review_roots.specs.declared.level.Level.{Level}
@@ -9,6 +9,13 @@ use Rattle.review_roots.specs.declared.way.Password.{Password}
 use Rattle.review_roots.specs.Body.Found.{AreGiven, AreLinked}
 use Rattle.review_roots.specs.Chains.{LeadsAlong, Steps}
 use Rattle.review_roots.specs.Ways.{first_row, marks_along, password_along}
+
+-- the chain is that of the found state at the index: its step leads to the chain's first state, and so on to one without a step
+abbrev pub IsAlong : List Found → ℕ → List State → Type 0
+IsAlong found i [] = (f : Found) × ((slice_get found i ≡ Some f) × (f.next ≡ None))
+IsAlong found i (s ∷ ss) =
+    (f : Found) × (next : ℕ) × (t : Found) × (slice_get found i ≡ Some f) × (f.next ≡ Some next) × (slice_get found next ≡ Some t)
+    × (t.state ≡ s) × IsAlong found next ss
 
 -- the chain leads from the found state at the index to the goal, and has its steps
 abbrev pub LeadsWhole : List Found → ℕ → List State → Type 0

@@ -1,8 +1,7 @@
-use Rattle.std.proofs.Common.{◌≡◌, Bool, List, map}
-use Rattle.std.proofs.Common.{◌∙◌, ap, length, subst, sym}
-use Rattle.review_roots.specs.Body.Found.{AreNearTo, AreStarts, HaveNoChain, asking_of}
+use Rattle.std.proofs.Common.{◌∙◌, List, Option, ap, length, subst, sym, ℕ}
+use Rattle.review_roots.specs.declared.search.Found.{Found}
+use Rattle.review_roots.specs.Body.Found.{AreStarts, HaveNoChain, IsTurning}
 use Rattle.review_roots.specs.Sought.{any_steps, free_steps, unasked_steps}
-use Rattle.review_roots.proofs.NearLemmas.{AreMarked, near-marked}
 use Rattle.review_roots.proofs.PathLemmas.{starts-chainless}
 use Rattle.review_roots.proofs.SearchLemmas.{point-back}
 use Rattle.review_roots.proofs.chains.chains_at.Goals as goal
@@ -29,18 +28,14 @@ returns-clause-lead c =
     let l = c.args.level in
     let people = ap length c.people-users.ensures in
     let starts = c.in_ok-any_starts.any_starts.items in
-    let near-to = subst (λ xs. AreNearTo h c.args.target l starts xs c.in_ok-near_states.near_states.items) c.deref-7.ensures.value
-    (subst (λ ss. AreNearTo h c.args.target l ss c.deref-7.result.now c.in_ok-near_states.near_states.items) c.deref-6.ensures.value
-    c.in_ok-near_states.ensures) in
     record {
       level = c.requires.level;
       any = c.requires.any;
       unasked = c.in_ok-unasked.ensures.found;
       free = c.in_ok-free.ensures.found;
-      near = near-marked h c.args.target l starts c.in_ok-unasked.unasked.items c.in_ok-near_states.near_states.items
-          c.in_ok-near.near.items near-to
-          (subst (AreMarked c.in_ok-near.near.items) c.deref-8.ensures.value c.in_ok-near.ensures);
-      near_states = near-to;
+      any_order = c.requires.order;
+      unasked_order = c.in_ok-unasked.ensures.order;
+      free_order = c.in_ok-free.ensures.order;
       are = record {
         any = point-back (any_steps h c.args.target) l c.args.any.items c.requires.any.linked;
         any_given = c.requires.given;
@@ -57,7 +52,7 @@ returns-clause-lead c =
             c.in_ok-free_starts.ensures.starts;
         free_users = c.in_ok-free_starts.ensures.known ∙ people;
       };
-      goals = c.in_ok-goals.ensures;
-      asking = subst (λ (marks : List Bool). map (λ k. k.now) c.in_ok-asking.asking.items ≡ asking_of h c.args.target marks)
-          c.deref-12.ensures.value c.in_ok-asking.ensures;
+      turning = subst (λ (xs : List Found). IsTurning h c.args.target l starts xs c.in_ok-turning.turning) c.deref-7.ensures.value
+          (subst (λ (ss : List (Option ℕ)). IsTurning h c.args.target l ss c.deref-7.result.now c.in_ok-turning.turning)
+          c.deref-6.ensures.value c.in_ok-turning.ensures);
     }

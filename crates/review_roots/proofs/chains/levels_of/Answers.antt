@@ -3,6 +3,7 @@ use Rattle.review_roots.specs.declared.level.Level.TheVariants as level
 use Rattle.review_roots.specs.Body.Candidates.{states_of}
 use Rattle.review_roots.specs.Body.Found.{IsLowerSpread, any_sought, kept_steps, lower_found, lower_spread}
 use Rattle.review_roots.proofs.KeptLemmas.{host-keeps}
+use Rattle.review_roots.proofs.LayerLemmas.{ordered-found}
 use Rattle.review_roots.proofs.PathLemmas.{found-among, none-missing}
 use Rattle.review_roots.proofs.SearchLemmas.{all-best, all-found, at-least-itself}
 use Rattle.review_roots.proofs.chains.levels_of.Goals as goal
@@ -13,9 +14,16 @@ chains_at-requires-clause-any c =
     let q = any_sought c.args.target in
     let found = c.in_ok-all.all.found.items in
     found-among h q h.faultless (host-keeps h) level.All found
-    (all-found (kept_steps h q) level.All level.All (length found) found (states_of (map (λ k. k.now) c.in_ok-all.all.left.items))
+    (all-found h.directory.now (kept_steps h q) level.All level.All (length found) found (states_of (map (λ k. k.now) c.in_ok-all.all.left.items))
     (c.in_ok-all.ensures.search level.All (all-best h.least) (at-least-itself level.All) (none-missing h c.args.target level.All))
     (omega arith))
+
+pub chains_at-requires-clause-order : goal.chains_at-requires-clause-order
+chains_at-requires-clause-order c =
+    let h = c.args.steps.now in
+    let found = c.in_ok-all.all.found.items in
+    ordered-found h (any_sought c.args.target) level.All level.All (length found) found (states_of (map (λ k. k.now) c.in_ok-all.all.left.items))
+    (c.in_ok-all.ensures.search level.All (all-best h.least) (at-least-itself level.All) (none-missing h c.args.target level.All))
 
 pub returns : goal.returns
 returns c =

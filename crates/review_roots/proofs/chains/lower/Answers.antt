@@ -2,6 +2,7 @@ use Rattle.std.proofs.Common.{◌∙◌, arith, length, map, sym}
 use Rattle.review_roots.specs.Body.Candidates.{states_of}
 use Rattle.review_roots.specs.Body.Found.{any_sought, kept_steps}
 use Rattle.review_roots.proofs.KeptLemmas.{host-keeps}
+use Rattle.review_roots.proofs.LayerLemmas.{ordered-found}
 use Rattle.review_roots.proofs.PathLemmas.{complete-among, found-among, none-missing}
 use Rattle.review_roots.proofs.SearchLemmas.{all-found, at-least-itself, none-further}
 use Rattle.review_roots.proofs.chains.lower.Goals as goal
@@ -33,6 +34,8 @@ returns c =
       );
       given = c.in_ok-spread.ensures.given;
       found = found-among h q h.faultless (host-keeps h) l found
-          (all-found (kept_steps h q) l l (length found) found left
+          (all-found h.directory.now (kept_steps h q) l l (length found) found left
           (c.in_ok-spread.ensures.search l asked (at-least-itself l) (none-missing h c.args.target l)) (omega arith));
+      order = ordered-found h q l l (length found) found left
+          (c.in_ok-spread.ensures.search l asked (at-least-itself l) (none-missing h c.args.target l));
     }

@@ -1,49 +1,29 @@
-use Rattle.std.proofs.Common.{Bor, List, arith, map, subst, sym}
-use Rattle.std.specs.Prelude.{All, filter}
+use Rattle.std.proofs.Common.{◌++◌, ◌∙◌, Bor, List, ap, map, subst, sym}
+use Rattle.std.specs.Prelude.{All}
+use Rattle.std.specs.List.{filter_map}
 use Rattle.std.proofs.lemmas.List.Elements.{All-filter}
 use Rattle.review_roots.specs.declared.candidate.Candidate.{Candidate}
-use Rattle.review_roots.specs.Body.Found.{IsCandidate, any_sought, is_left}
-use Rattle.review_roots.proofs.NearLemmas.{AreFar, AreParted, far-more, near-all, near-candidates, parted-first, parted-more}
+use Rattle.review_roots.specs.declared.layer.Aimed.{Aimed}
+use Rattle.review_roots.specs.declared.search.Aim.{Aim}
+use Rattle.review_roots.specs.declared.search.Found.{Found}
+use Rattle.review_roots.specs.Body.Found.{IsCandidate, any_sought, first_of, is_left}
+use Rattle.review_roots.proofs.NearLemmas.{near-drawn}
 use Rattle.review_roots.proofs.near.near_states.Goals as goal
-use Rattle.std.proofs.Common.{take, refl}
 
-pub loop-index-init : goal.loop-index-init
-loop-index-init c =
+pub draw-requires-clause-candidates : goal.draw-requires-clause-candidates
+draw-requires-clause-candidates c =
     let h = c.args.steps.now in
-    let all = filter (is_left h (any_sought c.args.target) c.args.starts.now) h.candidates.now in
-    record {
-      candidates = subst (All (IsCandidate h)) (sym c.in_ok-left.ensures)
-          (All-filter (is_left h (any_sought c.args.target) c.args.starts.now) (IsCandidate h) h.candidates.now h.covered.known);
-      parted = parted-first all (map (λ c. c.now) c.in_ok-left.left.items) c.new-near.result.items c.in_ok-left.ensures;
-      far = λ k d less j e more. absurd (omega (arith, more));
-    }
-
-pub loop-index-preserved : goal.loop-index-preserved
-loop-index-preserved c =
-    let h = c.args.steps.now in
-    let n = c.loop-index.index in
-    let found = c.args.found.now in
-    let near = c.loop-index.near.items in
-    let new = c.draw_to.new.found.items in
-    let cs : List Candidate = map (λ c. c.now) c.deref.result.now in
-    let kept : List Candidate = map (λ c. c.now) c.in_ok-left-2.left.items in
-    let all = filter (is_left h (any_sought c.args.target) c.args.starts.now) h.candidates.now in
-    let same = sym c.deref.ensures.value in
-    let candidates = subst (λ (xs : List (Bor Candidate)). All (IsCandidate h) (map (λ c. c.now) xs)) same
-    c.loop-index.invariant.candidates in
-    let parted = subst (λ (xs : List (Bor Candidate)). AreParted all near (map (λ c. c.now) xs)) same c.loop-index.invariant.parted in
-    let far = subst (λ (xs : List (Bor Candidate)). AreFar h c.args.level (take n found) (map
-    (λ c. c.now) xs)) same c.loop-index.invariant.far in
-    record {
-      candidates = near-candidates h c.args.level n _ near new cs kept c.in_ok-left-2.ensures.found c.in_ok-left-2.ensures.kept candidates;
-      parted = parted-more h c.args.level n _ near new cs kept c.in_ok-left-2.ensures.found c.in_ok-left-2.ensures.kept all parted;
-      far = far-more h c.args.level n _ near new cs kept c.in_ok-left-2.ensures.found c.in_ok-left-2.ensures.kept found _
-          c.loop-index-test.true refl
-          far;
-    }
+    subst (All (IsCandidate h))
+    (sym (ap (λ (xs : List (Bor Candidate)). map (λ k. k.now) xs) c.deref-2.ensures.value ∙ c.in_ok-left.ensures))
+    (All-filter (is_left h (any_sought c.args.target) c.args.starts.now) (IsCandidate h) h.candidates.now h.covered.known)
 
 pub returns : goal.returns
 returns c =
-    near-all c.args.steps.now c.args.target c.args.level c.args.starts.now c.args.found.now c.loop-index.near.items
-    (map (λ c. c.now) c.loop-index.left.items) c.loop-index.index (omega (arith, c.loop-index-test.false))
-    c.loop-index.invariant.parted c.loop-index.invariant.far
+    let h = c.args.steps.now in
+    let left : List Candidate = map (λ k. k.now) c.deref-2.result.now in
+    near-drawn h c.args.target c.args.level c.args.starts.now c.args.found.now c.draw.new.found.items left
+    (ap (λ (xs : List (Bor Candidate)). map (λ k. k.now) xs) c.deref-2.ensures.value ∙ c.in_ok-left.ensures)
+    (c.in_ok-draw.ensures.found
+    ∙ ap (λ (fs : List Found). fs ++ filter_map (first_of h (map (λ (a : Aimed). a.aim) c.deref.result.now)) left) c.new-near.ensures.items
+    ∙ ap (λ (aims : List Aim). filter_map (first_of h aims) left)
+    (ap (λ (xs : List Aimed). map (λ (a : Aimed). a.aim) xs) c.deref.ensures.value ∙ c.in_ok-aims.ensures.aims))

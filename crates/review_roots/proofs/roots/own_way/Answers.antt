@@ -21,7 +21,7 @@ returns-in-Some c =
     c.requires.alone c.requires.free
     c.requires.unasked
     (chosen h c.args.target c.args.level c.requires.lead.level user c.requires.known q c.deref-in-Some.result.now c.in_ok-own.own.items
-    c.in-Some.index w is.1 c.deref-in-Some.ensures.value c.in_ok-own.ensures.found at))
+    c.in-Some.index w is.1 c.deref-in-Some.ensures.value c.in_ok-own.ensures.found c.in_ok-own.ensures.order at))
     c.way_of.ensures
 
 pub returns-in-None : goal.returns-in-None
@@ -38,10 +38,10 @@ returns-in-None c =
     c.requires.way
 
 pub found_among-requires-clause-goals : goal.found_among-requires-clause-goals
-found_among-requires-clause-goals c = c.deref.ensures.value ∙ c.requires.lead.goals
+found_among-requires-clause-goals c = c.deref.ensures.value ∙ c.requires.turning.goals
 
 pub found_among-requires-clause-candidates : goal.found_among-requires-clause-candidates
 found_among-requires-clause-candidates c =
     let h = c.args.steps.now in
-    asking-left h c.args.target c.args.user c.args.chains.now.wanted.items c.requires.wanted (map (λ k. k.now) c.deref-2.result.now)
-    (ap (λ (xs : List (Bor Candidate)). map (λ k. k.now) xs) c.deref-2.ensures.value ∙ c.requires.lead.asking)
+    asking-left h c.args.target c.args.user c.args.turning.now.wanted.items c.requires.wanted (map (λ k. k.now) c.deref-2.result.now)
+    (ap (λ (xs : List (Bor Candidate)). map (λ k. k.now) xs) c.deref-2.ensures.value ∙ c.requires.turning.asking)

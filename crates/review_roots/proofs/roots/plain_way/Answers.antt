@@ -18,7 +18,7 @@ returns-in-Some c =
     way-own h c.args.target c.args.level c.requires.enough user c.requires.known c.requires.best w is.0
     c.requires.alone c.requires.free c.requires.unasked
     (chosen h c.args.target c.args.level c.requires.enough user c.requires.known q c.deref-in-Some.result.now c.in_ok-own.own.items
-    c.in-Some.index w is.1 c.deref-in-Some.ensures.value c.in_ok-own.ensures.found at))
+    c.in-Some.index w is.1 c.deref-in-Some.ensures.value c.in_ok-own.ensures.found c.in_ok-own.ensures.order at))
     c.way_of.ensures
 
 pub returns-in-None : goal.returns-in-None

@@ -11,8 +11,8 @@ pub may_turn-requires-clause-candidates : goal.may_turn-requires-clause-candidat
 may_turn-requires-clause-candidates c =
     let h = c.args.steps.now in
     subst (λ (xs : List (Bor Candidate)). All (IsCandidate h) (map (λ k. k.now) xs)) (sym c.deref.ensures.value)
-    (subst (All (IsCandidate h)) (sym c.requires.lead.asking)
-    (All-filter (is_asking h c.args.target c.args.chains.now.wanted.items) (IsCandidate h) h.candidates.now h.covered.known))
+    (subst (All (IsCandidate h)) (sym c.requires.turning.asking)
+    (All-filter (is_asking h c.args.target c.args.turning.now.wanted.items) (IsCandidate h) h.candidates.now h.covered.known))
 
 pub returns-then-not-branch : goal.returns-then-not-branch
 returns-then-not-branch c =
@@ -22,9 +22,10 @@ returns-then-not-branch c =
     let first = c.in_ok-may_turn.ensures c.if-not-branch.true in
     let second = subst (λ (xs : List (Bor Candidate)). AreUnentered h l user (map (λ k. k.now) xs) c.deref-2.result.now)
     c.deref.ensures.value first in
-    let un = subst (λ (xs : List Found). AreUnentered h l user (map (λ k. k.now) c.args.chains.now.asking.items) xs)
+    let un = subst (λ (xs : List Found). AreUnentered h l user (map (λ k. k.now) c.args.turning.now.asking.items) xs)
     c.deref-2.ensures.value second in
     way-any h c.args.target l c.requires.lead.level user c.requires.known c.requires.best c.args.way c.requires.level c.requires.free
     c.requires.unasked
-    (inr (none-turning h c.args.target l c.requires.lead.level user c.requires.known c.args.chains.now c.requires.lead c.requires.unasked
+    (inr (none-turning h c.args.target l c.requires.lead.level user c.requires.known c.args.chains.now c.args.turning.now c.requires.lead
+    c.requires.turning c.requires.unasked
     c.requires.wanted un c.requires.away)) c.requires.way

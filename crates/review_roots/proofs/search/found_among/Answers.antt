@@ -3,6 +3,7 @@ use Rattle.std.specs.Prelude.{All}
 use Rattle.std.proofs.lemmas.List.Elements.{All-filter}
 use Rattle.review_roots.specs.Body.Found.{IsCandidate, is_left, kept_steps}
 use Rattle.review_roots.proofs.KeptLemmas.{host-keeps}
+use Rattle.review_roots.proofs.LayerLemmas.{ordered-found}
 use Rattle.review_roots.proofs.PathLemmas.{found-among, none-missing}
 use Rattle.review_roots.proofs.SearchLemmas.{all-found, at-least-itself}
 use Rattle.review_roots.proofs.StartLemmas.{start-of, start-search, there-deep, there-given}
@@ -30,4 +31,17 @@ returns-clause-found c =
     (start-search h q l c.requires.level l (at-least-itself l) _ _
     (start-of h q l c.requires.level [] _ _ (none-missing h q.target l) (c.in_ok-found.ensures ∙ c.requires.goals)
     (c.in_ok-left.ensures ∙ c.requires.candidates))) in
-    found-among h q h.faultless (host-keeps h) l found (all-found (kept_steps h q) l l (length found) found _ search (omega arith))
+    found-among h q h.faultless (host-keeps h) l found
+    (all-found h.directory.now (kept_steps h q) l l (length found) found _ search (omega arith))
+
+pub returns-clause-order : goal.returns-clause-order
+returns-clause-order c =
+    let h = c.args.steps.now in
+    let q = c.args.sought in
+    let l = c.args.level in
+    let found = c.spread.new.found.items in
+    ordered-found h q l l (length found) found _
+    (c.in_ok-spread.ensures.search l
+    (start-search h q l c.requires.level l (at-least-itself l) _ _
+    (start-of h q l c.requires.level [] _ _ (none-missing h q.target l) (c.in_ok-found.ensures ∙ c.requires.goals)
+    (c.in_ok-left.ensures ∙ c.requires.candidates))))

@@ -5,15 +5,16 @@ use Rattle.review_roots.specs.Body.Found.{AreDeep, AreGiven, IsCandidate, IsSear
 use Rattle.review_roots.specs.Body.Candidates.{states_of}
 use Rattle.review_roots.proofs.search.spread.Given as goal
 
-abbrev pub invariant-loop-index : goal.invariant-loop-index
-invariant-loop-index l = record {
+abbrev pub invariant-loop-start : goal.invariant-loop-start
+invariant-loop-start l = record {
   candidates : All (IsCandidate l.steps) (map (λ c. c.now) l.left.items);
   given : AreGiven l.steps l.found.items;
   deep : AreDeep l.found.items;
-  search : (k : Level) → IsSearch (kept_steps l.steps l.sought) k l.level 0 l.initial.found.items
+  search : (k : Level) → IsSearch l.steps.directory.now (kept_steps l.steps l.sought) k l.level 0 l.initial.found.items
       (states_of (map (λ c. c.now) l.initial.left.items)) →
-      IsSearch (kept_steps l.steps l.sought) k l.level l.index l.found.items (states_of (map (λ c. c.now) l.left.items));
+      IsSearch l.steps.directory.now (kept_steps l.steps l.sought) k l.level l.start l.found.items
+      (states_of (map (λ c. c.now) l.left.items));
 }
 
-abbrev pub decreases-loop-index : goal.decreases-loop-index
-decreases-loop-index l = length l.left.items + length l.found.items - l.index
+abbrev pub decreases-loop-start : goal.decreases-loop-start
+decreases-loop-start l = length l.left.items + length l.found.items - l.start

@@ -1,7 +1,8 @@
-use Rattle.std.proofs.Common.{◌<◌, ◌∙◌, ap, arith, length}
+use Rattle.std.proofs.Common.{◌<◌, ◌∙◌, ap, arith, length, subst, sym}
 use Rattle.review_roots.specs.Ways.{worse}
 use Rattle.review_roots.proofs.LoopLemmas.{back-at, chain-all, chain-asks, chain-by, chain-marked, chain-marks, chain-more, chain-password}
-use Rattle.review_roots.proofs.LoopLemmas.{chain-row, chain-within}
+use Rattle.review_roots.proofs.LoopLemmas.{chain-row, chain-within, there}
+use Rattle.review_roots.proofs.FirstLemmas.{AlongSoFar, along-all, along-more}
 use Rattle.review_roots.proofs.way.trace.Goals as goal
 
 pub loop-at-smaller : goal.loop-at-smaller
@@ -15,6 +16,10 @@ loop-at-preserved c =
       inside = inside;
       so_far = chain-more c.args.found.now c.args.index c.loop-at.at c.in-Some.next c.loop-at.chain.items c.push.new.self.items _ _
           c.loop-at.invariant.inside inside c.in-Some.is c.in_ok-push.ensures.items c.loop-at.invariant.so_far;
+      along = subst (AlongSoFar c.args.found.now c.args.index c.in-Some.next) (sym c.in_ok-push.ensures.items)
+          (along-more c.args.found.now c.args.index c.loop-at.at c.in-Some.next c.loop-at.chain.items _ _
+          (there c.args.found.now c.loop-at.at _ c.loop-at.invariant.inside) c.in-Some.is (there c.args.found.now c.in-Some.next _ inside)
+          c.loop-at.invariant.along);
       within = chain-within c.args.found.now c.in-Some.next c.loop-at.chain.items c.push.new.self.items _ inside c.in_ok-push.ensures.items
           c.loop-at.invariant.within;
       row = chain-row c.args.found.now c.args.index c.loop-at.at c.in-Some.next c.loop-at.chain.items c.push.new.self.items _ _
@@ -31,6 +36,11 @@ pub returns-clause-leads : goal.returns-clause-leads
 returns-clause-leads c =
     chain-all c.args.found.now c.args.index c.loop-at.at c.loop-at.chain.items _ c.loop-at.invariant.inside c.in_default.is
     c.loop-at.invariant.so_far
+
+pub returns-clause-along : goal.returns-clause-along
+returns-clause-along c =
+    along-all c.args.found.now c.args.index c.loop-at.at c.loop-at.chain.items _
+    (there c.args.found.now c.loop-at.at _ c.loop-at.invariant.inside) c.in_default.is c.loop-at.invariant.along
 
 pub returns-clause-row : goal.returns-clause-row
 returns-clause-row c =

@@ -1,6 +1,9 @@
-use Rattle.std.proofs.Common.{◌∙◌, ap}
+use Rattle.std.proofs.Common.{◌∙◌, List, ap, sym, subst}
+use Rattle.review_roots.specs.declared.state.State.{State}
+use Rattle.review_roots.specs.Body.Candidates.{has_state}
 use Rattle.review_roots.specs.Body.Kept.{kept_states}
 use Rattle.review_roots.specs.Body.Raising.{block_raises, indices}
+use Rattle.review_roots.specs.Order.{IsInOrder}
 use Rattle.review_roots.proofs.rules.Rules.new.Goals as goal
 
 pub invariant_of-result-clause-raised : goal.invariant_of-result-clause-raised
@@ -8,5 +11,15 @@ invariant_of-result-clause-raised c =
     c.in_ok-raising.ensures ∙ ap (indices (block_raises c.args.least)) c.deref.ensures.value
 
 pub invariant_of-result-clause-kept : goal.invariant_of-result-clause-kept
-invariant_of-result-clause-kept c =
-    c.in_ok-states.ensures ∙ ap (kept_states c.args.directory.now c.args.groups.now) c.deref-3.ensures.value
+invariant_of-result-clause-kept c = λ s.
+    c.in_ok-sort_states.ensures.same s
+    ∙ ap (λ (ss : List State). has_state ss s)
+    (c.in_ok-states.ensures ∙ ap (kept_states c.args.directory.now c.args.groups.now) c.deref-3.ensures.value)
+
+pub invariant_of-result-clause-candidates_order : goal.invariant_of-result-clause-candidates_order
+invariant_of-result-clause-candidates_order c =
+    let d = c.args.directory.now in
+    c.in_ok-candidates.ensures.order d (subst (IsInOrder d) (sym c.deref-4.ensures.value) c.in_ok-sort_states.ensures.sorted)
+
+pub invariant_of-result-clause-unnamed : goal.invariant_of-result-clause-unnamed
+invariant_of-result-clause-unnamed c = c.in_ok-ids.ensures

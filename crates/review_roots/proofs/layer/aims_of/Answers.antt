@@ -1,0 +1,22 @@
+use Rattle.std.proofs.Common.{arith, refl, subst, sym}
+use Rattle.std.specs.Prelude.{All}
+use Rattle.std.proofs.lemmas.List.Elements.{All-push}
+use Rattle.review_roots.specs.Body.Found.{IsAimed}
+use Rattle.review_roots.proofs.LayerLemmas.{aims-next}
+use Rattle.review_roots.proofs.LoopLemmas.{there}
+use Rattle.review_roots.proofs.layer.aims_of.Goals as goal
+
+pub loop-index-preserved : goal.loop-index-preserved
+loop-index-preserved c =
+    let q = c.args.sought in
+    let l = c.args.level in
+    let n = c.args.start in
+    let i = c.loop-index.index in
+    let found = c.args.found.now in
+    record {
+      aims = aims-next q l n i found c.loop-index.aims.items c.push.new.self.items _ _ (omega (arith, c.loop-index.auto.index))
+          (there found i _ (omega (arith, c.loop-index-test.true))) refl c.in_ok-push.ensures.items c.loop-index.invariant.aims;
+      aimed = subst (All (IsAimed c.args.steps.now)) (sym c.in_ok-push.ensures.items)
+          (All-push (IsAimed c.args.steps.now) c.loop-index.aims.items _ c.loop-index.invariant.aimed
+          (record { level = c.requires.level; toward = c.in_ok-toward.ensures }));
+    }

@@ -1,0 +1,11 @@
+use Rattle.std.proofs.Common.{◌∙◌, ap}
+use Rattle.review_roots.specs.declared.state.State.{State}
+use Rattle.review_roots.proofs.TowardLemmas.{toward-itself}
+use Rattle.review_roots.proofs.layer.toward_of.Goals as goal
+
+pub returns-in-Some : goal.returns-in-Some
+returns-in-Some c =
+    let h = c.args.steps.now in
+    let known = c.known.ensures.candidate c.in-Some.known c.in-Some.is in
+    let toward = known.1.toward (ap (λ (s : State). s.added) known.0 ∙ c.known.ensures.alone c.in-Some.known c.in-Some.is) in
+    (toward.state ∙ known.0, toward-itself h c.in-Some.known.now.state c.in-Some.known.now.toward toward)

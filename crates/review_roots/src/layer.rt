@@ -1,0 +1,140 @@
+//! The steps to the found states whose chains have as many steps: each candidate takes the first of these to which it has one.
+ghost use Rattle.std.specs.Prelude.{◌≡◌, ◌++◌, All, IfOk, IsTrue, OnOk, filter, is_some, map, not};
+ghost use Rattle.std.specs.List.{filter_map};
+ghost use Rattle.review_roots.specs.Body.Found as spec;
+ghost use Rattle.review_roots.specs.Body.Found.{AreDeep, IsAimed, IsCandidate, aims_at, first_of};
+ghost use Rattle.review_roots.specs.Ranks.{is_at_least};
+
+use crate::Level;
+use crate::candidate::Candidate;
+use crate::host::HostSteps;
+use crate::search::{Aim, Found, Sought, reached};
+use crate::state::State;
+use crate::toward::Toward;
+use std::alloc::{AllocError, Global};
+
+/// What the steps to a state depend on: known before, or made for it.
+#[derive(Drop)]
+pub(crate) enum AnyToward<'r> {
+    Known(&'r Toward),
+    Made(Toward),
+}
+
+/// An aim, with what the steps to its state depend on.
+#[derive(Drop)]
+pub(crate) struct Aimed<'r> {
+    pub(crate) aim: Aim,
+    pub(crate) toward: AnyToward<'r>,
+}
+
+impl AnyToward<'_> {
+    // Returns what the steps depend on.
+    fn get(&self) -> &Toward
+        ensures { result.now ≡ spec.any_toward self.now }
+    {
+        match self {
+            AnyToward::Known(toward) => toward,
+            AnyToward::Made(toward) => toward,
+        }
+    }
+}
+
+// Returns what the steps to a state depend on.
+fn toward_of<'r>(
+    alloc: Global,
+    steps: &HostSteps<'r, '_>,
+    state: State,
+) -> Result<AnyToward<'r>, AllocError>
+    ensures { IfOk result (λ toward. spec.IsTowardOf steps.now state (spec.any_toward toward)) }
+{
+    match steps.known(state) {
+        Some(known) => Ok(AnyToward::Known(&known.toward)),
+        None => Ok(AnyToward::Made(steps.toward(alloc, state)?)),
+    }
+}
+
+/// Returns the found states from an index on as aims of steps that count, of the level. Returns `AllocError` if allocation fails.
+pub(crate) fn aims_of<'r>(
+    alloc: Global,
+    steps: &HostSteps<'r, '_>,
+    sought: Sought,
+    level: Level,
+    found: &[Found],
+    start: usize,
+) -> Result<Vec<Aimed<'r>>, AllocError>
+    requires level { IsTrue (is_at_least steps.now.least level) }
+    requires deep { AreDeep found.now }
+    ensures aims { IfOk result (λ aims. map (λ a. a.aim) aims.items
+        ≡ aims_at sought level start found.now) }
+    ensures aimed { IfOk result (λ aims. All (IsAimed steps.now) aims.items) }
+{
+    let mut aims = Vec::new(alloc);
+    for index in start..found.len() {
+        let Found {
+            state,
+            steps: count,
+            next: _,
+            given: _,
+        } = found[index];
+        let aim = Aim {
+            index,
+            state,
+            level,
+            counted: sought.counted,
+            steps: count + 1,
+        };
+        let toward = toward_of(alloc, steps, state)?;
+        aims.push(Aimed { aim, toward })?;
+    }
+    Ok(aims)
+}
+
+// Returns the candidate as it is found by the first of the aims to which it has a step, if it has one.
+fn first_reached(
+    steps: &HostSteps<'_, '_>,
+    aims: &[Aimed<'_>],
+    candidate: &Candidate,
+) -> Option<Found>
+    requires aims { All (IsAimed steps.now) aims.now }
+    requires candidate { IsCandidate steps.now candidate.now }
+    ensures { result ≡ first_of steps.now (map (λ a. a.aim) aims.now) candidate.now }
+{
+    for aimed in aims {
+        if let Some(given) = reached(steps, aimed.aim, aimed.toward.get(), candidate) {
+            return Some(Found {
+                state: candidate.state,
+                steps: aimed.aim.steps,
+                next: Some(aimed.aim.index),
+                given,
+            });
+        }
+    }
+    None
+}
+
+/// Moves the candidates with a step to an aim to those that are found, each by the first of these aims, and returns the others. Returns
+/// `AllocError` if allocation fails.
+pub(crate) fn draw<'c>(
+    alloc: Global,
+    steps: &HostSteps<'_, '_>,
+    aims: &[Aimed<'_>],
+    left: &[&'c Candidate],
+    found: &mut Vec<Found>,
+) -> Result<Vec<&'c Candidate>, AllocError>
+    requires aims { All (IsAimed steps.now) aims.now }
+    requires candidates { All (IsCandidate steps.now) (map (λ c. c.now) left.now) }
+    ensures kept { IfOk result (λ kept. map (λ c. c.now) kept.items
+        ≡ filter (λ c. not (is_some (first_of steps.now (map (λ a. a.aim) aims.now) c)))
+        (map (λ c. c.now) left.now)) }
+    ensures found { OnOk result (found.new.items ≡ found.old.items ++ filter_map (first_of
+        steps.now (map (λ a. a.aim) aims.now)) (map (λ c. c.now) left.now)) }
+{
+    let mut kept = Vec::new(alloc);
+    for candidate in left {
+        match first_reached(steps, aims, candidate) {
+            Some(state) => found.push(state)?,
+            None => kept.push(*candidate)?,
+        }
+    }
+    Ok(kept)
+}
