@@ -108,7 +108,7 @@ none_picked T ds marks are none = none_marked marks ds each
 
 -- ---- Definitions of a name
 
-self_kind : (k : Kind) → same_kind k k ≡ true
+pub self_kind : (k : Kind) → same_kind k k ≡ true
 self_kind kinds.User = refl
 self_kind kinds.Runas = refl
 self_kind kinds.Host = refl

@@ -2,6 +2,7 @@
 -- definition of must-fail-further/ in it, and is refuted by an example.
 use Rattle.std.proofs.Common.{reverse, ◌≡◌, ℕ, ◌+◌, ◌==◌, Bool, true, false, not, cond, List, [], ◌∷◌, ◌++◌, flat_map, find, map}
 use Rattle.std.proofs.Common.{Option, Some, None, Ok, Result, refl, sym, ◌∙◌, ap, option_map, ◌↔◌, take, drop, count_by, ◌||◌, arith}
+use Rattle.std.proofs.Common.{subst, inl, inr, ◌⊎◌}
 use Rattle.std.specs.Prelude.{bytes_eq, codes, slice_get, unwrap_or}
 use Rattle.audit_collect.specs.declared.report.Report.{Report}
 use Rattle.audit_collect.specs.declared.report.SenderReport.{SenderReport}
@@ -10,6 +11,7 @@ use Rattle.audit_files.specs.Rows.{records_of}
 use Rattle.sudo_grammar.specs.Members.{atom_of}
 use Rattle.sudo_grammar.specs.Tags.{pairs, same_pair}
 use Rattle.sudo_grammar.specs.Words.{bytes_of, is_name}
+use Rattle.sudo_grammar.specs.declared.fault.ParseFault.{ParseFault}
 use Rattle.sudo_grammar.specs.declared.fault.Refusal.{Refusal}
 use Rattle.sudo_grammar.specs.declared.kind.Atom.{Atom}
 use Rattle.sudo_grammar.specs.declared.kind.Atom.TheVariants as atoms
@@ -19,6 +21,7 @@ use Rattle.sudo_grammar.specs.declared.kind.Member.{Member}
 use Rattle.sudo_grammar.specs.declared.kind.Signed.{Signed}
 use Rattle.sudo_grammar.specs.declared.policy.CommandSpec.{CommandSpec}
 use Rattle.sudo_grammar.specs.declared.policy.Entry.{Entry}
+use Rattle.sudo_grammar.specs.declared.policy.EntryBody.{EntryBody}
 use Rattle.sudo_grammar.specs.declared.policy.EntryBody.TheVariants.{Aliases, Rule}
 use Rattle.sudo_grammar.specs.declared.policy.Policy.{Policy}
 use Rattle.sudo_grammar.specs.declared.policy.Runas.{Runas}
@@ -27,6 +30,7 @@ use Rattle.sudo_grammar.specs.declared.tag.TagPair.{TagPair}
 use Rattle.sudo_grammar.specs.declared.tag.TagPair.TheVariants as tag_pairs
 use Rattle.sudo_laws.proofs.OneSpelling.{one_spelling}
 use Rattle.sudo_laws.proofs.PatternTexts.{is_escaped_x}
+use Rattle.sudo_laws.proofs.ReplacedLemmas.{load_replaced}
 use Rattle.sudo_laws.proofs.ReportLemmas.{report_read}
 use Rattle.sudo_laws.proofs.SpelledLemmas.{all_printable}
 use Rattle.sudo_laws.proofs.TestLemmas.{Each, each_first, each_none, each_one, each_rest}
@@ -35,6 +39,9 @@ use Rattle.sudo_laws.specs.Longer.{AddsRule}
 use Rattle.sudo_laws.specs.Slashes.{is_slash_part}
 use Rattle.sudo_laws.specs.Spelled.{ReadAsUser, SpellSome, Spells, SpellsAll, blanks, escape, itself, next, none, number}
 use Rattle.sudo_laws.specs.WrittenOut.{WritesOut}
+use Rattle.sudo_load.specs.Files.{HasContent}
+use Rattle.sudo_load.specs.Load.{IsLoad}
+use Rattle.sudo_load.specs.declared.supply.Supply.{Supply}
 use Rattle.sudo_match.specs.Beginnings.{is_special}
 use Rattle.sudo_match.specs.KnownRows.{KnownRows, host_named, user_named}
 use Rattle.sudo_match.specs.Matching.{command_fits, host_fits, user_fits}
@@ -46,15 +53,28 @@ use Rattle.sudo_match.specs.declared.request.Request.{Request}
 use Rattle.sudo_match.specs.declared.request.Verdict.TheVariants.{NoMatch}
 use Rattle.sudo_match.specs.declared.patterns.Slash.TheVariants.{Any}
 use Rattle.sudo_policy.proofs.Laws.{alone_stands, written_append}
+use Rattle.sudo_policy.specs.Checking.{FailsCheck, Passes}
 use Rattle.sudo_policy.specs.Definitions.{alias_named}
 use Rattle.sudo_policy.specs.Following.{reading_within}
 use Rattle.sudo_policy.specs.Written.{alone_written, written_form}
+use Rattle.sudo_policy.specs.Found.{AreFindings, has_error}
+use Rattle.sudo_policy.specs.declared.finding.Finding.{Finding}
+use Rattle.sudo_parser.specs.Parsed.{AreEntries, IsEntryOf, IsFirstFault, IsLineFault}
 use Rattle.sudo_parser.specs.Texts.{atom_text}
+use Rattle.sudo_text.proofs.NoFault.{no_fault}
+use Rattle.sudo_text.proofs.OneList.{one_list}
 use Rattle.sudo_text.specs.Bytes.{is_blank, is_control}
 use Rattle.sudo_text.specs.Pieces.{ends_run, ends_word, escape_at, escaped, hex_at, is_arguments, piece_at, plain, reach, run_end}
-use Rattle.sudo_text.specs.Rules.{begins_defaults, line_kind, word_style}
+use Rattle.sudo_text.specs.Lines.{lines_of}
+use Rattle.sudo_text.specs.Rules.{begins_defaults, general_rule_at, line_kind, rule_at, word_style}
+use Rattle.sudo_text.specs.Tokens.{LeftmostFault, closes_line, spells}
+use Rattle.sudo_text.specs.declared.fault.TextFault.{TextFault}
+use Rattle.sudo_text.specs.declared.fault.TextFault.TheVariants.{BadEscape, BadQuote}
+use Rattle.sudo_text.specs.declared.line.Line.{Line}
+use Rattle.sudo_text.specs.declared.line.Place.{Place}
 use Rattle.sudo_text.specs.declared.token.Ch.{Ch}
 use Rattle.sudo_text.specs.declared.token.Mark.TheVariants.{Bang}
+use Rattle.sudo_text.specs.declared.token.Token.{Token}
 use Rattle.sudo_text.specs.declared.token.TokenKind.TheVariants as tokens
 use Rattle.sudo_text.specs.declared.token.TokenKind.TheVariants.{Word}
 use Rattle.sudo_verdict.specs.Grants.{Grant, applies, entry_grants, grants, place_grants, section_grants}
@@ -469,3 +489,117 @@ senders_in_reverse law =
 
     apart : 98 ≡ (λ (n : ℕ). n) 97 → ⊥
     apart e = omega (arith, e)
+
+-- ---- Existence
+
+first_line : Place
+first_line = record { file = 0; line = 1 }
+
+-- a comment with these joins
+comment : List ℕ → Line
+comment joins = record { first = first_line; text = 35 ∷ []; joins = joins }
+
+-- it may not continue over a join
+joined_fault : LeftmostFault (comment (1 ∷ [])) (BadEscape first_line 1)
+unfolding comment line_kind begins_defaults rule_at general_rule_at
+joined_fault = record {
+  before = [];
+  flaw = _;
+  offset = 0;
+  after = (omega arith, (refl, refl, refl));
+  is = refl;
+}
+
+alone_spelled : spells (comment []) [] ≡ true
+unfolding comment line_kind begins_defaults rule_at general_rule_at closes_line spells
+alone_spelled = refl
+
+-- the faults of the text without its joins
+no_joins : ((line : Line) → ((ts : List Token) × (spells line ts ≡ true))
+    ⊎ ((fault : TextFault) × LeftmostFault (record { first = line.first; text = line.text; joins = [] }) fault)) → ⊥
+unfolding comment
+no_joins law = elim (law (comment (1 ∷ []))) [
+  | inl spelled ↦ no_fault (comment (1 ∷ [])) _ spelled.0 joined_fault spelled.1
+  | inr faulty ↦ no_fault (comment []) faulty.0 [] faulty.1 alone_spelled
+]
+
+-- a line with a fault of its text has no entry
+no_entry : (room : Kind → ℕ) (line : Line) (fault : TextFault) → LeftmostFault line fault → (body : Option EntryBody)
+    → IsEntryOf room line body → ⊥
+no_entry room line fault leftmost None says = no_fault line fault [] leftmost says
+no_entry room line fault leftmost (Some body) says = no_fault line fault (says.0 ∷ says.1) leftmost says.2
+
+nothing_first : (t : Token) (ts : List Token) → [] ≡ t ∷ ts → ⊥
+nothing_first t ts e = cc
+
+-- a line without tokens has no fault
+blank_fine : (room : Kind → ℕ) (line : Line) (fault : ParseFault) → spells line [] ≡ true → IsLineFault room line fault → ⊥
+blank_fine room line fault blank (inl faulty) = no_fault line faulty.text [] faulty.leftmost blank
+blank_fine room line fault blank (inr faulty) = nothing_first _ _ (one_list line [] (faulty.first ∷ faulty.rest) blank faulty.spelled)
+
+-- the fault of the first line alone
+first_line_alone : ((lines : List Line) → ((entries : List Entry) × AreEntries lines entries)
+    ⊎ ((fault : ParseFault) × IsFirstFault (take 1 lines) fault)) → ⊥
+first_line_alone law = elim (law (comment [] ∷ comment (1 ∷ []) ∷ [])) [
+  | inl said ↦ no_entry _ (comment (1 ∷ [])) _ joined_fault said.1.3.0 said.1.3.2
+  | inr (fault, inl faulty) ↦ blank_fine _ (comment []) fault alone_spelled faulty
+  | inr (fault, inr later) ↦ later.2
+]
+
+-- a double quote that no other one closes
+quote_line : Line
+quote_line = record { first = first_line; text = 34 ∷ []; joins = [] }
+
+quote_fault : LeftmostFault quote_line (BadQuote first_line 1)
+unfolding quote_line line_kind begins_defaults rule_at general_rule_at
+quote_fault = record {
+  before = [];
+  flaw = _;
+  offset = 0;
+  after = (omega arith, inr (refl, refl, refl));
+  is = refl;
+}
+
+one_quote : lines_of 0 (34 ∷ []) ≡ Ok (quote_line ∷ [])
+unfolding quote_line first_line
+one_quote = refl
+
+ok_is : {A E : Type 0} {a b : A} → ◌≡◌ {A = Result A E} (Ok a) (Ok b) → a ≡ b
+ok_is e = cc
+
+no_content : (entries : List Entry) → HasContent 0 (34 ∷ []) (Ok entries) → ⊥
+no_content entries (lines, is, are) =
+    let said = subst (λ ls. AreEntries ls entries) (ok_is (sym is ∙ one_quote)) are in
+    no_entry _ quote_line _ quote_fault said.0 said.2
+
+-- a load that is never refused
+never_refused : ((path text : List ℕ) (supplies : List Supply) → (policy : Policy) × IsLoad path text supplies (Ok policy)) → ⊥
+never_refused law =
+    let loaded = law [] (34 ∷ []) [] in
+    let replaced = load_replaced [] [] (34 ∷ []) loaded.0 loaded.1 in
+    no_content replaced.lines replaced.content
+
+-- `User_Alias A = ALL`, in a line of this number
+definition : ℕ → Entry
+definition line = record {
+  place = record { file = 0; line = line };
+  body = Aliases kinds.User (record { name = 65 ∷ []; members = member 0 atoms.All ∷ [] } ∷ []);
+}
+
+defined_twice : Policy
+unfolding definition
+defined_twice = record { files = [] ∷ []; entries = definition 1 ∷ definition 2 ∷ []; placed = refl; unfolded = refl }
+
+twice_found : (found : List Finding) → AreFindings defined_twice found → has_error found ≡ true
+unfolding definition defined_twice
+twice_found found are = ap has_error are.list
+
+-- a failure without findings
+without_findings : ((p : Policy) → Passes p ⊎ FailsCheck p []) → ⊥
+without_findings law = elim (law defined_twice) [
+  | inl passes ↦ true_false (sym (twice_found passes.found passes.are) ∙ passes.none)
+  | inr fails ↦ true_false (sym fails.some)
+]
+  where
+    true_false : true ≡ false → ⊥
+    true_false e = cc

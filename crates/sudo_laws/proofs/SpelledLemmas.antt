@@ -105,7 +105,7 @@ spell_blanks : (hex spaced : Bool) (bs : List ℕ) → spaced ≡ true → Each 
 spell_blanks hex spaced [] style all some = absurd (omega (arith, some))
 spell_blanks hex spaced (b ∷ bs) style all some = blanks b bs style all
 
-first_blank : (xs : List ℕ) → is_blank (get_or xs 0 0) ≡ true → 0 < length (take_while is_blank xs)
+pub first_blank : (xs : List ℕ) → is_blank (get_or xs 0 0) ≡ true → 0 < length (take_while is_blank xs)
 first_blank [] h = cc
 first_blank (x ∷ xs) h =
     let whole = length-prefix_len is_blank (x ∷ xs) in
