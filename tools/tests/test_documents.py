@@ -129,7 +129,7 @@ class Contracts(unittest.TestCase):
 
     def test_the_readme(self) -> None:
         rows = list(rows_of("README.md", ["Guarantee", "Function", "Clauses", "Definitions"]))
-        self.assertEqual(len(rows), 22)
+        self.assertEqual(len(rows), 24)
         for _, (_, functions, clauses, definitions) in rows:
             self.holds("", functions, clauses, definitions)
 
