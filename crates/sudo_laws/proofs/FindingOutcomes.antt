@@ -13,6 +13,7 @@ use Rattle.sudo_laws.proofs.DecidedLemmas.{Decided, Way, decided_as, decided_bot
 use Rattle.sudo_laws.proofs.DecidedLemmas.{decided_true, decided_way, edge_way, full_at_last, way_way}
 use Rattle.sudo_laws.proofs.PassLemmas.{self_kind}
 use Rattle.sudo_policy.proofs.FollowingLemmas.{option_map-some, reading_more, reading_same, reading_step}
+use Rattle.sudo_policy.proofs.FoundLemmas.{AreFindings-same}
 use Rattle.sudo_policy.proofs.Laws.{both_there}
 use Rattle.sudo_policy.proofs.SurveyLemmas.{defines-same}
 use Rattle.sudo_policy.specs.Checking.{FailsCheck, Passes}
@@ -288,3 +289,7 @@ passes_or_fails p =
         → Passes p ⊎ ((found : List Finding) × FailsCheck p found)
     by found are true is = inr (found, record { are = are; some = is })
     by found are false is = inl (record { found = found; are = are; none = is })
+
+pub never_both : (p : Policy) (found : List Finding) → Passes p → FailsCheck p found → ⊥
+never_both p found passes fails =
+    true≢false (sym fails.some ∙ ap has_error (AreFindings-same p found passes.found fails.are passes.are) ∙ passes.none)

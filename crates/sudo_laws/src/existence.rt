@@ -36,9 +36,10 @@ pub fn files_are_loaded_or_refused()
         → (result : Result Policy Refusal) × IsLoad path text supplies result }
 {}
 
-/// Each policy has findings, and by them it passes the check or fails it. By a law of `sudo_policy` its findings are one
-/// list.
+/// Each policy has findings, and by them it passes the check or fails it, and never both. By a law of `sudo_policy` its
+/// findings are one list.
 pub fn policies_pass_or_fail()
     ensures findings { (p : Policy) → (found : List Finding) × AreFindings p found }
     ensures passes { (p : Policy) → Passes p ⊎ ((found : List Finding) × FailsCheck p found) }
+    ensures apart { (p : Policy) (found : List Finding) → Passes p → FailsCheck p found → ⊥ }
 {}
