@@ -1,9 +1,17 @@
 -- What is decided of the items of a list, and of steps from item to item.
 use Rattle.std.proofs.Common.{◌≡◌, ℕ, zero, suc, ◌+◌, ◌<◌, ◌≤◌, Bool, true, false, not, List, [], ◌∷◌, refl, sym, ◌∙◌}
-use Rattle.std.proofs.Common.{ap, subst, Contains, inl, inr, ◌⊎◌, arith}
-use Rattle.std.proofs.lemmas.Bool.{false≢true}
+use Rattle.std.proofs.Common.{ap, subst, None, Some, Contains, inl, inr, ◌⊎◌, arith}
+use Rattle.std.specs.Prelude.{bytes_eq}
+use Rattle.std.specs.Cmp.Lexicographic.{bytes_decides}
+use Rattle.std.proofs.lemmas.Bool.{cases_lt, false≢true}
 use Rattle.std.proofs.lemmas.List.Elements.{Contains-append_cases, Contains-append_left, Contains-append_right}
 use Rattle.sudo_policy.proofs.MarkingLemmas.{is_one, none_in, one_in}
+
+pub some_is : {A : Type 0} {a b : A} → Some a ≡ Some b → a ≡ b
+some_is e = cc
+
+pub none_some : {A : Type 0} {a : A} → None ≡ Some a → ⊥
+none_some e = cc
 
 -- it holds, or it does not
 abbrev pub Decided : Type 0 → Type 0
@@ -34,6 +42,30 @@ decided_as to back (inr none) = inr (λ q. none (back q))
 pub decided_true : (b : Bool) → Decided (b ≡ true)
 decided_true true = inl refl
 decided_true false = inr (λ e. false≢true e)
+
+pub decided_name : (a b : List ℕ) → Decided (a ≡ b)
+decided_name a b = decided_as (bytes_decides a b).0 (bytes_decides a b).1 (decided_true (bytes_eq a b))
+
+pub decided_less_or_same : (a b : ℕ) → Decided (a ≤ b)
+decided_less_or_same a b = elim (cases_lt b a) [ inl less ↦ inr (λ h. omega (arith, less, h)) | inr more ↦ inl more ]
+
+-- ---- The least number
+
+below_or_last : (i n : ℕ) → i < suc n → (i < n) ⊎ (i ≡ n)
+below_or_last i n lt = elim (cases_lt i n) [ inl less ↦ inl less | inr more ↦ inr (omega (arith, lt, more)) ]
+
+-- the least number below n of which P holds, or of none it does
+pub least_below : (P : ℕ → Type 0) → ((k : ℕ) → Decided (P k)) → (n : ℕ)
+    → ((k : ℕ) × (k < n) × P k × ((i : ℕ) → i < k → P i → ⊥)) ⊎ ((i : ℕ) → i < n → P i → ⊥)
+least_below P each zero = inr (λ i lt h. omega (arith, lt))
+least_below P each (suc n) = elim (least_below P each n) [
+  | inl found ↦ (let less = found.1 in inl (found.0, omega (arith, less), found.2, found.3))
+  | inr none ↦
+      (elim (each n) [
+        | inl here ↦ inl (n, omega arith, here, none)
+        | inr not ↦ inr (λ i lt h. (elim (below_or_last i n lt) [ inl less ↦ none i less h | inr same ↦ not (subst P same h) ]))
+      ])
+]
 
 -- ---- Some item
 

@@ -9,8 +9,8 @@ use Rattle.sudo_grammar.specs.declared.kind.Kind.{Kind}
 use Rattle.sudo_grammar.specs.declared.kind.Member.{Member}
 use Rattle.sudo_grammar.specs.declared.policy.Policy.{Policy}
 use Rattle.sudo_laws.proofs.AliasLemmas.{find_among, map_in}
-use Rattle.sudo_laws.proofs.DecidedLemmas.{Decided, Way, decided_as, decided_both, decided_either, decided_not, decided_some}
-use Rattle.sudo_laws.proofs.DecidedLemmas.{decided_true, decided_way, edge_way, full_at_last, way_way}
+use Rattle.sudo_laws.proofs.DecidedLemmas.{Decided, Way, decided_as, decided_both, decided_either, decided_name, decided_not, decided_some}
+use Rattle.sudo_laws.proofs.DecidedLemmas.{decided_true, decided_way, edge_way, full_at_last, none_some, some_is, way_way}
 use Rattle.sudo_laws.proofs.PassLemmas.{self_kind}
 use Rattle.sudo_policy.proofs.FollowingLemmas.{option_map-some, reading_more, reading_same, reading_step}
 use Rattle.sudo_policy.proofs.FoundLemmas.{AreFindings-same}
@@ -25,15 +25,6 @@ use Rattle.sudo_policy.specs.Found.{AreFindings, IsCyclic, IsTooDeep, IsTooWide,
 use Rattle.sudo_policy.specs.declared.finding.Finding.{Finding}
 
 -- ---- Names and kinds
-
-some_is : {A : Type 0} {a b : A} → Some a ≡ Some b → a ≡ b
-some_is e = cc
-
-none_some : {A : Type 0} {a : A} → None ≡ Some a → ⊥
-none_some e = cc
-
-decided_name : (a b : List ℕ) → Decided (a ≡ b)
-decided_name a b = decided_as (bytes_decides a b).0 (bytes_decides a b).1 (decided_true _)
 
 decided_in : (names : List (List ℕ)) (name : List ℕ) → Decided (Contains names name)
 decided_in names name =

@@ -16,6 +16,7 @@ pub mod Refusals
 pub mod ReplacedLemmas
 pub mod ReplacedOnce
 pub mod ReportLemmas
+pub mod ReportOutcomes
 pub mod RunOutcomes
 pub mod SpelledLemmas
 pub mod TestLemmas

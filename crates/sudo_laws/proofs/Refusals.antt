@@ -2,8 +2,17 @@
 -- definition of must-fail-further/ in it, and is refuted by an example.
 use Rattle.std.proofs.Common.{reverse, ◌≡◌, ℕ, ◌+◌, ◌==◌, Bool, true, false, not, cond, List, [], ◌∷◌, ◌++◌, flat_map, find, map}
 use Rattle.std.proofs.Common.{Option, Some, None, Ok, Result, refl, sym, ◌∙◌, ap, option_map, ◌↔◌, take, drop, count_by, ◌||◌, arith}
-use Rattle.std.proofs.Common.{subst, inl, inr, ◌⊎◌}
+use Rattle.std.proofs.Common.{subst, inl, inr, ◌⊎◌, length, length-append, IsPermutation}
 use Rattle.std.specs.Prelude.{bytes_eq, codes, slice_get, unwrap_or}
+use Rattle.std.proofs.lemmas.List.Sorted.{length_permutation}
+use Rattle.audit_collect.specs.Collect.{IsFirstRefused}
+use Rattle.audit_collect.specs.Complete.{IsReportOf, arrivals_from}
+use Rattle.audit_collect.specs.Roster.{IsRoster}
+use Rattle.audit_collect.specs.SenderState.{start}
+use Rattle.audit_collect.specs.declared.arrival.Answer.{Answer}
+use Rattle.audit_collect.specs.declared.arrival.Arrival.{Arrival}
+use Rattle.audit_collect.specs.declared.arrival.Arrival.TheVariants.{Close, Reply}
+use Rattle.audit_collect.specs.declared.fault.Refused.{Refused}
 use Rattle.audit_collect.specs.declared.report.Report.{Report}
 use Rattle.audit_collect.specs.declared.report.SenderReport.{SenderReport}
 use Rattle.audit_files.specs.Report.{answer_fields, header, line, sender_text}
@@ -603,3 +612,24 @@ without_findings law = elim (law defined_twice) [
   where
     true_false : true ≡ false → ⊥
     true_false e = cc
+
+-- nothing is complete for a sender
+unsent : (lists : List (List Answer)) → length lists ≡ 1 → IsPermutation (arrivals_from 0 lists) [] → ⊥
+unsent [] one moved = omega (arith, one)
+unsent (answers ∷ lists) one moved =
+    let same = length_permutation (arrivals_from 0 (answers ∷ lists)) [] moved in
+    let long = length-append (map Reply answers) (Close 0 (length answers) ∷ arrivals_from 1 lists) in
+    omega (arith, same, long)
+
+unsplit : (before : List Arrival) (arrival : Arrival) (later : List Arrival) → [] ≡ before ++ arrival ∷ later → ⊥
+unsplit [] arrival later e = cc
+unsplit (a ∷ before) arrival later e = cc
+
+-- refusals of arrivals alone
+refusals_alone : ((names : List (List ℕ)) (arrivals : List Arrival)
+    → (IsRoster names × ((made : Report) × IsReportOf names arrivals made))
+    ⊎ ((why : Refused) × IsFirstRefused (start names) arrivals why)) → ⊥
+refusals_alone law = elim (law ([] ∷ []) []) [
+  | inl said ↦ unsent said.1.1.lists said.1.1.complete.senders said.1.1.complete.arrived
+  | inr refused ↦ unsplit refused.1.before refused.1.arrival refused.1.later refused.1.split
+]

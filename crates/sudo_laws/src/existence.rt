@@ -1,6 +1,12 @@
 //! Laws of existence: each input is read or refused, so no definition of reading is one that nothing satisfies. visudo(8),
 //! option -c.
-ghost use Rattle.std.specs.Prelude.{◌≡◌, ◌⊎◌, List, Result, true, ℕ};
+ghost use Rattle.std.specs.Prelude.{◌≡◌, ◌⊎◌, Err, List, Result, true, ℕ};
+ghost use Rattle.audit_collect.specs.Collect.{FailsWith, IsOutOfMemory};
+ghost use Rattle.audit_collect.specs.Complete.{IsReportOf};
+ghost use Rattle.audit_collect.specs.Roster.{IsRoster};
+ghost use Rattle.audit_collect.specs.declared.arrival.Arrival.{Arrival};
+ghost use Rattle.audit_collect.specs.declared.fault.CollectFault.{CollectFault};
+ghost use Rattle.audit_collect.specs.declared.report.Report.{Report};
 ghost use Rattle.sudo_grammar.specs.declared.fault.ParseFault.{ParseFault};
 ghost use Rattle.sudo_grammar.specs.declared.policy.Entry.{Entry};
 ghost use Rattle.sudo_grammar.specs.declared.policy.Policy.{Policy};
@@ -42,4 +48,12 @@ pub fn policies_pass_or_fail()
     ensures findings { (p : Policy) → (found : List Finding) × AreFindings p found }
     ensures passes { (p : Policy) → Passes p ⊎ ((found : List Finding) × FailsCheck p found) }
     ensures apart { (p : Policy) (found : List Finding) → Passes p → FailsCheck p found → ⊥ }
+{}
+
+/// A roster and a list of arrivals have a report, or a fault. The fault is not that memory ran out.
+pub fn arrivals_have_a_report_or_a_fault()
+    ensures { (names : List (List ℕ)) (arrivals : List Arrival)
+        → (IsRoster names × ((made : Report) × IsReportOf names arrivals made))
+        ⊎ ((fault : CollectFault) × FailsWith names arrivals fault
+        × (IsOutOfMemory (Err fault) → ⊥)) }
 {}

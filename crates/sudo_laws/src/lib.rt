@@ -15,8 +15,8 @@ mod wildcards;
 pub use aliases::lists_are_written_by_equations;
 pub use commands::{last_runas_is_in_force, last_tag_of_a_pair_is_in_force};
 pub use existence::{
-    files_are_loaded_or_refused, lines_have_entries_or_a_fault, lines_have_tokens_or_a_fault,
-    policies_pass_or_fail,
+    arrivals_have_a_report_or_a_fault, files_are_loaded_or_refused, lines_have_entries_or_a_fault,
+    lines_have_tokens_or_a_fault, policies_pass_or_fail,
 };
 pub use includes::include_lines_are_replaced;
 pub use members::{alias_decides_as_its_list, exclamation_mark_turns, last_member_decides};
