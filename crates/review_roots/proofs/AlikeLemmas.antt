@@ -101,7 +101,7 @@ module _ (p : Policy) (x : Grant) (g : Group) (absent : IsAbsent p g x.users x.r
 
 -- ---- A user with an added group
 
-name-kept : (u : Person) (a : Option Group) → (with_added u a).name ≡ u.name
+pub name-kept : (u : Person) (a : Option Group) → (with_added u a).name ≡ u.name
 name-kept u None = refl
 name-kept u (Some g) = refl
 

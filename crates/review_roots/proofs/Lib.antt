@@ -10,6 +10,7 @@ pub mod SearchLemmas
 pub mod DrawLemmas
 pub mod OrderLemmas
 pub mod LayerLemmas
+pub mod LikeLemmas
 pub mod FirstLemmas
 pub mod EffectLemmas
 pub mod SettledLemmas

@@ -20,7 +20,7 @@ there [] k l e = absurd (omega (arith, l))
 there (x ∷ xs) zero l e = cc
 there (x ∷ xs) (suc k) l e = there xs k (omega (arith, l)) e
 
-before : {X : Type 0} (xs : List X) (i j : ℕ) (x : X) → i < j → slice_get xs i ≡ Some x → slice_get (take j xs) i ≡ Some x
+pub before : {X : Type 0} (xs : List X) (i j : ℕ) (x : X) → i < j → slice_get xs i ≡ Some x → slice_get (take j xs) i ≡ Some x
 before [] i j x l e = cc
 before (y ∷ xs) i zero x l e = absurd (omega (arith, l))
 before (y ∷ xs) zero (suc j) x l e = e

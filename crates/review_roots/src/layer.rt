@@ -1,12 +1,16 @@
 //! The steps to the found states whose chains have as many steps: each candidate takes the first of these to which it has one.
-ghost use Rattle.std.specs.Prelude.{◌≡◌, ◌++◌, All, IfOk, IsTrue, OnOk, filter, is_some, map, not};
+ghost use Rattle.std.specs.Prelude.{◌≡◌, ◌⊎◌, ◌++◌, ◌==◌, All, IfOk, IsTrue, None, OnOk, Some, false, filter, is_some, map};
+ghost use Rattle.std.specs.Prelude.{not, true};
 ghost use Rattle.std.specs.List.{filter_map};
 ghost use Rattle.review_roots.specs.Body.Found as spec;
-ghost use Rattle.review_roots.specs.Body.Found.{AreDeep, IsAimed, IsCandidate, aims_at, first_of};
+ghost use Rattle.review_roots.specs.Body.Found.{AreDeep, IsAimed, IsCandidate, aims_at, first_of, reaches};
 ghost use Rattle.review_roots.specs.Ranks.{is_at_least};
+ghost use Rattle.review_roots.specs.Ways.{step_on};
+ghost use Rattle.review_roots.specs.declared.given.Given.{Given as TheGiven};
 
 use crate::Level;
 use crate::candidate::Candidate;
+use crate::given::Given;
 use crate::host::HostSteps;
 use crate::search::{Aim, Found, Sought, reached};
 use crate::state::State;
@@ -20,11 +24,13 @@ pub(crate) enum AnyToward<'r> {
     Made(Toward),
 }
 
-/// An aim, with what the steps to its state depend on.
+/// An aim, with what the steps to its state depend on, and whether an aim before it is of the same user, and the same blocks allow it:
+/// who has no step to that one has none to this one, but for the user itself.
 #[derive(Drop)]
 pub(crate) struct Aimed<'r> {
     pub(crate) aim: Aim,
     pub(crate) toward: AnyToward<'r>,
+    pub(crate) is_like: bool,
 }
 
 impl AnyToward<'_> {
@@ -53,6 +59,35 @@ fn toward_of<'r>(
     }
 }
 
+// Whether the aim is of the state's user, and the same blocks allow both.
+fn is_like(aimed: &Aimed<'_>, aim: Aim, toward: &Toward) -> bool
+    requires level { aimed.now.aim.level ≡ aim.level }
+    requires counted { aimed.now.aim.counted ≡ aim.counted }
+    ensures { result ≡ true → spec.AreLike aimed.now aim toward.now }
+{
+    aimed.aim.state.user == aim.state.user
+        && aimed.toward.get().allowed.as_slice() == toward.allowed.as_slice()
+}
+
+// Whether one of the aims is of the state's user, and the same blocks allow both. They stand by their users.
+fn has_like(aims: &[Aimed<'_>], aim: Aim, toward: &Toward) -> bool
+    requires level { All (λ a. a.aim.level ≡ aim.level) aims.now }
+    requires counted { All (λ a. a.aim.counted ≡ aim.counted) aims.now }
+    ensures { result ≡ true → spec.HasLike aims.now aim toward.now }
+{
+    let mut at = aims.len();
+    while at > 0 {
+        at -= 1;
+        if aims[at].aim.state.user != aim.state.user {
+            return false;
+        }
+        if !aims[at].is_like && is_like(&aims[at], aim, toward) {
+            return true;
+        }
+    }
+    false
+}
+
 /// Returns the found states from an index on as aims of steps that count, of the level. Returns `AllocError` if allocation fails.
 pub(crate) fn aims_of<'r>(
     alloc: Global,
@@ -67,6 +102,7 @@ pub(crate) fn aims_of<'r>(
     ensures aims { IfOk result (λ aims. map (λ a. a.aim) aims.items
         ≡ aims_at sought level start found.now) }
     ensures aimed { IfOk result (λ aims. All (IsAimed steps.now) aims.items) }
+    ensures like { IfOk result (λ aims. spec.TellLike aims.items) }
 {
     let mut aims = Vec::new(alloc);
     for index in start..found.len() {
@@ -84,9 +120,33 @@ pub(crate) fn aims_of<'r>(
             steps: count + 1,
         };
         let toward = toward_of(alloc, steps, state)?;
-        aims.push(Aimed { aim, toward })?;
+        let is_like = has_like(&aims, aim, toward.get());
+        aims.push(Aimed {
+            aim,
+            toward,
+            is_like,
+        })?;
     }
     Ok(aims)
+}
+
+// Returns what the step of the candidate to the state of an aim gives, if it has the level or a better one. None is looked for where an
+// aim before is like this one, and the user is another.
+fn reached_by(steps: &HostSteps<'_, '_>, aimed: &Aimed<'_>, candidate: &Candidate) -> Option<Given>
+    requires aimed { IsAimed steps.now aimed.now }
+    requires candidate { IsCandidate steps.now candidate.now }
+    ensures given { (given : TheGiven) → result ≡ Some given
+        → (reaches steps.now aimed.now.aim candidate.now ≡ true)
+        × (given ≡ step_on steps.now candidate.now.state aimed.now.aim.state) }
+    ensures none { result ≡ None → ((aimed.now.is_like ≡ true)
+        × ((candidate.now.state.user == aimed.now.aim.state.user) ≡ false))
+        ⊎ (reaches steps.now aimed.now.aim candidate.now ≡ false) }
+{
+    if aimed.is_like && candidate.state.user != aimed.aim.state.user {
+        None
+    } else {
+        reached(steps, aimed.aim, aimed.toward.get(), candidate)
+    }
 }
 
 // Returns the candidate as it is found by the first of the aims to which it has a step, if it has one.
@@ -96,11 +156,12 @@ fn first_reached(
     candidate: &Candidate,
 ) -> Option<Found>
     requires aims { All (IsAimed steps.now) aims.now }
+    requires like { spec.TellLike aims.now }
     requires candidate { IsCandidate steps.now candidate.now }
     ensures { result ≡ first_of steps.now (map (λ a. a.aim) aims.now) candidate.now }
 {
     for aimed in aims {
-        if let Some(given) = reached(steps, aimed.aim, aimed.toward.get(), candidate) {
+        if let Some(given) = reached_by(steps, aimed, candidate) {
             return Some(Found {
                 state: candidate.state,
                 steps: aimed.aim.steps,
@@ -122,6 +183,7 @@ pub(crate) fn draw<'c>(
     found: &mut Vec<Found>,
 ) -> Result<Vec<&'c Candidate>, AllocError>
     requires aims { All (IsAimed steps.now) aims.now }
+    requires like { spec.TellLike aims.now }
     requires candidates { All (IsCandidate steps.now) (map (λ c. c.now) left.now) }
     ensures kept { IfOk result (λ kept. map (λ c. c.now) kept.items
         ≡ filter (λ c. not (is_some (first_of steps.now (map (λ a. a.aim) aims.now) c)))

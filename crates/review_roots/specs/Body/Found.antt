@@ -351,6 +351,23 @@ pub record IsAimed (h : HostSteps) (a : Aimed) : Type 0 where
   pub level : is_at_least h.least a.aim.level ≡ true
   pub toward : IsTowardOf h a.aim.state (any_toward a.toward)
 
+-- the aim is another one of the same user, whose steps the same blocks allow
+pub record AreLike (one : Aimed) (aim : Aim) (t : Toward) : Type 0 where
+  pub user : one.aim.state.user ≡ aim.state.user
+  pub level : one.aim.level ≡ aim.level
+  pub counted : one.aim.counted ≡ aim.counted
+  pub allowed : (any_toward one.toward).allowed.items ≡ t.allowed.items
+
+-- one of the aims is such a one
+abbrev pub HasLike : List Aimed → Aim → Toward → Type 0
+HasLike aims aim t = (one : Aimed) × (Contains aims one × AreLike one aim t)
+
+-- of each aim that is said to be like one before it that is so
+abbrev pub TellLike : List Aimed → Type 0
+TellLike aims =
+    (k : ℕ) (a : Aimed) → slice_get aims k ≡ Some a → a.is_like ≡ true →
+    (j : ℕ) × (one : Aimed) × (j < k) × (slice_get aims j ≡ Some one) × AreLike one a.aim (any_toward a.toward)
+
 -- the state is not at the goal, and no step of the least level, or of a better one, leads from it
 abbrev pub IsMute : Steps State → Level → State → Type 0
 IsMute g least s =

@@ -6,7 +6,7 @@ use Rattle.review_roots.specs.declared.candidate.Candidate.{Candidate}
 use Rattle.review_roots.specs.declared.layer.Aimed.{Aimed}
 use Rattle.review_roots.specs.declared.search.Aim.{Aim}
 use Rattle.review_roots.specs.declared.search.Found.{Found}
-use Rattle.review_roots.specs.Body.Found.{IsCandidate, any_sought, first_of, is_left}
+use Rattle.review_roots.specs.Body.Found.{IsCandidate, TellLike, any_sought, first_of, is_left}
 use Rattle.review_roots.proofs.NearLemmas.{near-drawn}
 use Rattle.review_roots.proofs.near.near_states.Goals as goal
 
@@ -27,3 +27,6 @@ returns c =
     ∙ ap (λ (fs : List Found). fs ++ filter_map (first_of h (map (λ (a : Aimed). a.aim) c.deref.result.now)) left) c.new-near.ensures.items
     ∙ ap (λ (aims : List Aim). filter_map (first_of h aims) left)
     (ap (λ (xs : List Aimed). map (λ (a : Aimed). a.aim) xs) c.deref.ensures.value ∙ c.in_ok-aims.ensures.aims))
+
+pub draw-requires-clause-like : goal.draw-requires-clause-like
+draw-requires-clause-like c = subst TellLike (sym c.deref.ensures.value) c.in_ok-aims.ensures.like

@@ -6,7 +6,7 @@ use Rattle.review_roots.specs.declared.candidate.Candidate.{Candidate}
 use Rattle.review_roots.specs.declared.layer.Aimed.{Aimed}
 use Rattle.review_roots.specs.declared.search.Aim.{Aim}
 use Rattle.review_roots.specs.Body.Candidates.{states_of}
-use Rattle.review_roots.specs.Body.Found.{IsCandidate, IsSearch, aims_at, first_of, kept_steps}
+use Rattle.review_roots.specs.Body.Found.{IsCandidate, IsSearch, TellLike, aims_at, first_of, kept_steps}
 use Rattle.review_roots.proofs.LayerLemmas.{spread-candidates, spread-deep, spread-given, spread-length, spread-search}
 use Rattle.review_roots.proofs.SearchLemmas.{search-end}
 use Rattle.review_roots.proofs.search.spread.Goals as goal
@@ -78,3 +78,6 @@ returns-then-is_none-clause-search c = λ k start.
     (states_of (map (λ c. c.now) c.loop-start.left.items)) (c.loop-start.invariant.search k start)
     (inr (ap (λ (xs : List (Bor Candidate)). states_of (map (λ c. c.now) xs))
     (sym c.deref.ensures.value ∙ c.is_none.ensures c.if-is_none.true)))
+
+pub draw-requires-clause-like : goal.draw-requires-clause-like
+draw-requires-clause-like c = subst TellLike (sym c.deref-in-loop-start-2.ensures.value) c.in_ok-aims.ensures.like
