@@ -64,7 +64,7 @@ class Marks(Drawn):
             for user, row in zip(USERS[1:], roots.rows[1:]):
                 mark = answers[row[at]].mark
                 says = mark.endswith("?") or mark == "A!"
-                if steps.distance(user, 1, 1) is not None:
+                if steps.first(user, 1, 1):
                     self.assertTrue(says, f"{user} on {host}: {mark}")
                     yield "a lesser chain" if asked[user, host] not in ("none", "?") else "as the column"
                 elif mark != "·":

@@ -1,5 +1,6 @@
 -- Of the shortest chains from a state a search finds the first one.
-use Rattle.std.proofs.Common.{◌≡◌, ◌<◌, ◌≤◌, ◌+◌, ◌∙◌, ◌⊎◌, ℕ, zero, suc, true, false, List, [], ◌∷◌, ◌++◌, ap, arith, append-nil, append_assoc}
+use Rattle.std.proofs.Common.{◌≡◌, ◌<◌, ◌≤◌, ◌+◌, ◌∙◌, ◌⊎◌, ℕ, zero, suc, true, false, List, [], ◌∷◌, ◌++◌, ap, arith}
+use Rattle.std.proofs.Common.{append-nil, append_assoc}
 use Rattle.std.proofs.Common.{inl, inr, length, refl, subst, sym, Option, Some, None}
 use Rattle.std.specs.Prelude.{All, slice_get}
 use Rattle.std.specs.Cmp.Lexicographic.{slice_cmp}
@@ -55,7 +56,8 @@ first-states :
     (state_cmp d s u ≡ Equal → is_behind d ss us ≡ false) → is_behind d (s ∷ ss) (u ∷ us) ≡ false
 first-states d s u ss us not rest = go (state_cmp d s u) refl not
   where
-    go : (o : Ordering) → state_cmp d s u ≡ o → is_gt o ≡ false → is_gt (ordering_then (state_cmp d s u) (slice_cmp (state_cmp d) ss us)) ≡ false
+    go : (o : Ordering) → state_cmp d s u ≡ o → is_gt o ≡ false
+        → is_gt (ordering_then (state_cmp d s u) (slice_cmp (state_cmp d) ss us)) ≡ false
     go Less is e = ap (λ o. is_gt (ordering_then o (slice_cmp (state_cmp d) ss us))) is
     go Equal is e = ap (λ o. is_gt (ordering_then o (slice_cmp (state_cmp d) ss us))) is ∙ rest is
     go Greater is e = cc
@@ -114,7 +116,9 @@ module _ (h : HostSteps) (q : Sought) (l : Level) (found : List Found) (are : Ar
     steps_f = go (subst (IsLinked g l found i f) is (are.linked i f at))
       where
         go : (e : Found) × IsStep g l found i f j e → f.steps ≡ t.steps + 1
-        go (e, link) = let same : e ≡ t = (let k : Some e ≡ Some t = sym link.there ∙ to in cc) in link.steps ∙ ap (λ (e : Found). e.steps + 1) same
+        go (e, link) =
+            let same : e ≡ t = (let k : Some e ≡ Some t = sym link.there ∙ to in cc) in
+            link.steps ∙ ap (λ (e : Found). e.steps + 1) same
 
     path_u : Path g l (length us) u
     path_u = chains-are-paths State g l u us in_u in_us leads
@@ -146,7 +150,8 @@ module _ (h : HostSteps) (q : Sought) (l : Level) (found : List Found) (are : Ar
           where
             at_e : (k : ℕ) × (slice_get found k ≡ Some e) → is_gt (state_cmp d t.state v) ≡ false
             at_e (k, at_k) =
-                let reaches_e : is_at_least l (g.level f.state e.state) ≡ true = ap (λ x. is_at_least l (g.level f.state x)) same ∙ reaches in
+                let reaches_e : is_at_least l (g.level f.state e.state) ≡ true =
+                ap (λ x. is_at_least l (g.level f.state x)) same ∙ reaches in
                 let path_e = found-path (suc k) k e (omega arith) at_k in
                 let least = (right-at i f at).shortest (suc e.steps) (more (right-at i f at).inside reaches_e path_e) in
                 let short = (right-at k e at_k).shortest m (subst (Path g l m) (sym same) path_v) in

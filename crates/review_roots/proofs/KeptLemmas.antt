@@ -179,7 +179,8 @@ module _ (d : KnownRows) (groups : List Group) (ids : List ℕ) where
         → is_gt (state_cmp d (state_with (Some j) user) (state_with (Some i) user)) ≡ false
     no-later t j e passes =
         one-user d (state_with (Some j) user) (state_with (Some i) user) refl
-        (not-more j i (find-least t (unnamed_at ids groups) 0 m i j e (omega arith) (omega (arith, within)) (ap (unnamed_if ids) at ∙ none) passes))
+        (not-more j i
+        (find-least t (unnamed_at ids groups) 0 m i j e (omega arith) (omega (arith, within)) (ap (unnamed_if ids) at ∙ none) passes))
 
     had : has_group u g ≡ true → Stand
     had has = go (find (has_at u groups) others) refl
@@ -264,8 +265,13 @@ module _ (d : KnownRows) (groups : List Group) (ids : List ℕ) where
           at i u g is within at_i same true none =
               let t = unnamed-kept s.user i u g less is within at_i none in
               (t.0, subst (λ s. Covers s t.0) (sym same) t.1)
-          at i u g is within at_i same false some =
-              (s, (subst (Contains kept) (sym same) (named-kept s.user i u g less is within at_i some), (alike-itself s, behind-itself d s)))
+          at i u g is within at_i same false some = (
+            s,
+            (
+              subst (Contains kept) (sym same) (named-kept s.user i u g less is within at_i some),
+              (alike-itself s, behind-itself d s),
+            ),
+          )
 
   -- ---- What is kept is among all
 

@@ -20,7 +20,8 @@ use Rattle.review_roots.specs.declared.search.Found.{Found}
 use Rattle.review_roots.specs.declared.search.Sought.{Sought}
 use Rattle.review_roots.specs.declared.state.State.{State}
 use Rattle.review_roots.specs.Body.Candidates.{states_of}
-use Rattle.review_roots.specs.Body.Found.{AreDeep, AreFirst, AreGiven, AreLinked, AreOrdered, AreSorted, IsCandidate, IsDrawn, IsFound, IsGiven}
+use Rattle.review_roots.specs.Body.Found.{AreDeep, AreFirst, AreGiven, AreLinked, AreOrdered, AreSorted, IsCandidate, IsDrawn}
+use Rattle.review_roots.specs.Body.Found.{IsFound, IsGiven}
 use Rattle.review_roots.specs.Body.Found.{IsLinked, IsSearch, IsStuck, aim_of, aims_at, aims_from, first_of, found_by, found_states}
 use Rattle.review_roots.specs.Body.Found.{kept_steps, reaches}
 use Rattle.review_roots.specs.Chains.{Steps, Path, here, more}
@@ -124,7 +125,8 @@ first-some : (h : HostSteps) (aims : List Aim) (c : Candidate) (f : Found) → f
 first-some h [] c f e = cc
 first-some h (b ∷ aims) c f e = go (reaches h b c) refl e (first-some h aims c f)
   where
-    go : (r : Bool) → reaches h b c ≡ r → cond r (Some (found_by h b c)) (first_of h aims c) ≡ Some f → (first_of h aims c ≡ Some f → IsFirstAim h aims c f) → IsFirstAim h (b ∷ aims) c f
+    go : (r : Bool) → reaches h b c ≡ r → cond r (Some (found_by h b c)) (first_of h aims c) ≡ Some f
+        → (first_of h aims c ≡ Some f → IsFirstAim h aims c f) → IsFirstAim h (b ∷ aims) c f
     go true is e behind = record {
       at = zero;
       aim = b;
@@ -351,7 +353,8 @@ module _ (h : HostSteps) (q : Sought) (least l : Level) (n : ℕ) (found : List 
             },
           )
 
-      go : (slice_get found i ≡ Some f) ⊎ ((k : ℕ) × ((i ≡ length found + k) × (slice_get fresh k ≡ Some f))) → IsLinked gr l grown i f f.next
+      go : (slice_get found i ≡ Some f) ⊎ ((k : ℕ) × ((i ≡ length found + k) × (slice_get fresh k ≡ Some f)))
+          → IsLinked gr l grown i f f.next
       go (inl before) = old f.next (search.linked i f before)
       go (inr (k, (is, there))) = new (omega (arith, is)) (of-fresh f (at-contains fresh f k there))
 

@@ -19,7 +19,8 @@ use Rattle.review_roots.specs.declared.toward.Toward.{Toward}
 use Rattle.review_roots.specs.Asked.{nothing}
 use Rattle.review_roots.specs.Blocks.{with_rows}
 use Rattle.review_roots.specs.Body.Candidates.{both_at, part_at}
-use Rattle.review_roots.specs.Body.Found.{AreLike, HasLike, IsAimed, IsCandidate, IsTowardOf, TellLike, any_toward, first_of, found_by, reaches}
+use Rattle.review_roots.specs.Body.Found.{AreLike, HasLike, IsAimed, IsCandidate, IsTowardOf, TellLike, any_toward}
+use Rattle.review_roots.specs.Body.Found.{first_of, found_by, reaches}
 use Rattle.review_roots.specs.Body.Towards.{IsToward}
 use Rattle.review_roots.specs.Ranks.{is_at_least}
 use Rattle.review_roots.specs.States.{group_at, level_for, with_added}

@@ -105,7 +105,8 @@ pub one-user : (d : KnownRows) (s t : State) → s.user ≡ t.user → is_gt (op
     → is_gt (state_cmp d s t) ≡ false
 one-user d s t same added =
     ap (λ o. is_gt (ordering_then o (option_cmp nat_cmp s.added t.added)))
-    (ap (λ user. slice_cmp nat_cmp (user_name d s.user) (user_name d user)) (sym same) ∙ tied_itself nat_list_cmp_total (user_name d s.user))
+    (ap (λ user. slice_cmp nat_cmp (user_name d s.user) (user_name d user)) (sym same)
+    ∙ tied_itself nat_list_cmp_total (user_name d s.user))
     ∙ added
 
 -- ---- Lists of states in their order
@@ -282,7 +283,8 @@ sorted-order d ss up = each
 pub sorted-by-calls :
     {F : Type 0} {g : Mut F (Bor State × (Bor State × Unit {0})) Ordering} {f : F} (d : KnownRows) (ss : List State) →
     ((lt : State → State → Bool) → IsStrictWeakOrder lt → ComparesAs g lt f → IsSortedBy lt ss) →
-    ((a : Bor State × (Bor State × Unit {0})) (r : Ordering) (f' : F) → Called g f a r f' → (r ≡ state_cmp d a.0.now a.1.0.now) × (f' ≡ f)) →
+    ((a : Bor State × (Bor State × Unit {0})) (r : Ordering) (f' : F) → Called g f a r f'
+    → (r ≡ state_cmp d a.0.now a.1.0.now) × (f' ≡ f)) →
     IsInOrder d ss
 sorted-by-calls {g = g} {f = f} d ss up calls =
     sorted-order d ss

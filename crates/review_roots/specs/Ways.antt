@@ -1,6 +1,7 @@
 -- A chain of steps to a target: its level, the row that allows its first step, and whose passwords it asks for.
 -- sudo(8), sudoers(5), "Tag_Spec": a password is asked unless NOPASSWD is in force.
-use Rattle.std.specs.Prelude.{◌≡◌, ◌≤◌, ℕ, Bool, min, nat_lt, true, false, ◌==◌, if◌then◌else◌, List, [], ◌∷◌, All, Option, None, codes, length}
+use Rattle.std.specs.Prelude.{◌≡◌, ◌≤◌, ℕ, Bool, min, nat_lt, true, false, ◌==◌, if◌then◌else◌, List, [], ◌∷◌, All, Option}
+use Rattle.std.specs.Prelude.{None, codes, length}
 use Rattle.std.specs.List.{Contains}
 use Rattle.review_grants.specs.declared.marks.Marks.{Marks}
 use Rattle.review_grants.specs.Depends.{joined_marks, unmarked}

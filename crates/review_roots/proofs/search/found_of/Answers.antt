@@ -15,7 +15,8 @@ returns-clause-found c =
     let found = c.in_ok-found.field-0.found.items in
     let search = c.in_ok-found.ensures.search l c.requires.level (at-least-itself l) c.requires.starts in
     found-among h q h.faultless (host-keeps h) l found
-    (all-found h.directory.now (kept_steps h q) l l (length found) found (states_of (map (λ c. c.now) c.in_ok-found.field-0.left.items)) search
+    (all-found h.directory.now (kept_steps h q) l l (length found) found
+    (states_of (map (λ c. c.now) c.in_ok-found.field-0.left.items)) search
     (omega arith))
 
 pub returns-clause-order : goal.returns-clause-order

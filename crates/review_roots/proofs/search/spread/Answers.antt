@@ -36,7 +36,8 @@ loop-start-preserved c =
       given = spread-given h q l n found new cs kept finds keeps c.loop-start.invariant.given;
       deep = spread-deep h q l n found new cs kept finds keeps c.loop-start.invariant.deep;
       search = λ k start.
-          subst (λ (m : ℕ). IsSearch h.directory.now g k l m new (states_of kept)) (let e : length found ≡ c.len-start.result = omega (arith, c.len-start.ensures) in e)
+          subst (λ (m : ℕ). IsSearch h.directory.now g k l m new (states_of kept))
+          (let e : length found ≡ c.len-start.result = omega (arith, c.len-start.ensures) in e)
           (spread-search h q l n found new cs kept finds keeps k
           (subst (λ (xs : List (Bor Candidate)). IsSearch h.directory.now g k l n found (states_of (map (λ c. c.now) xs))) same
           (c.loop-start.invariant.search k start)));
