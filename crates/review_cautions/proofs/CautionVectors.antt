@@ -22,7 +22,7 @@ use Rattle.sudo_grammar.specs.declared.policy.Entry.{Entry}
 use Rattle.sudo_policy.specs.Definitions.{MemberList, granting_list, definition_in}
 use Rattle.review_texts.specs.Notes.{note_path}
 use Rattle.review_texts.specs.declared.note.Note.{Note}
-use Rattle.review_texts.specs.declared.note.Note.TheVariants.{Digest, Time, Chroot}
+use Rattle.review_texts.specs.declared.note.Note.TheVariants.{Digest, Time, Chroot, Regex}
 use Rattle.review_cautions.specs.declared.class.CautionClass.TheVariants.{Return, BlankAfterBackslash, Join, TornMark}
 use Rattle.review_cautions.specs.declared.class.CautionClass.TheVariants.{IncludeEscape, IncludeIndent, Comment, EmptyGroup}
 use Rattle.review_cautions.specs.declared.class.CautionClass.TheVariants.{Caret, Escape, Case, QuotedHost, QuotedEscape, Linked, Defaults}
@@ -462,9 +462,9 @@ noting line path = list kinds.Cmnd line (atoms.Command (map plain path) None)
 
 -- note by note, one caution for each line; none for another path, nor for a list of other kind
 depends : noted_cautions (noting 1 (codes "/t[z-a]") ∷ noting 2 (codes "/c[z-a]") ∷ noting 2 (codes "/d[z-a]") ∷ noting 2 (codes "/d[z-a]")
-    ∷ noting 3 (codes "/d[z-b]") ∷ noting 4 (codes "/e[z-a]") ∷ noting 5 (codes "/d[z-a]") ∷ [])
+    ∷ noting 3 (codes "/r[z-a]") ∷ noting 3 (codes "/d[z-b]") ∷ noting 4 (codes "/e[z-a]") ∷ noting 5 (codes "/d[z-a]") ∷ [])
     ≡ note_caution Digest (place 0 2) ∷ note_caution Digest (place 0 5) ∷ note_caution Time (place 0 1)
-    ∷ note_caution Chroot (place 0 2) ∷ []
+    ∷ note_caution Chroot (place 0 2) ∷ note_caution Regex (place 0 3) ∷ []
 unfolding noting list member
 depends = refl
 
@@ -483,3 +483,4 @@ unfolding noting list member
 depends_alone Digest = refl
 depends_alone Time = refl
 depends_alone Chroot = refl
+depends_alone Regex = refl

@@ -3,7 +3,7 @@ use Rattle.std.proofs.Common.{◌≡◌, ◌∙◌, Bool, true, false, cond, Lis
 use Rattle.std.specs.Prelude.{filter}
 use Rattle.sudo_policy.specs.Definitions.{MemberList}
 use Rattle.review_texts.specs.declared.note.Note.{Note}
-use Rattle.review_texts.specs.declared.note.Note.TheVariants.{Digest, Time, Chroot}
+use Rattle.review_texts.specs.declared.note.Note.TheVariants.{Digest, Time, Chroot, Regex}
 use Rattle.review_cautions.specs.declared.caution.Caution.{Caution}
 use Rattle.review_cautions.specs.Cautions.{caution_at, distinct_places, list_cautions, note_caution, note_cautions, noted_cautions}
 use Rattle.review_cautions.specs.ListTests.{list_holds}
@@ -43,6 +43,11 @@ marked-note note ls =
 pub marked-notes : (ls : List MemberList) → noted_cautions (filter list_is_marked ls) ≡ noted_cautions ls
 marked-notes ls =
     let marked : List MemberList = filter list_is_marked ls in
-    ap (λ (found : List Caution). found ++ (note_cautions Time marked ++ (note_cautions Chroot marked ++ []))) (marked-note Digest ls)
-    ∙ ap (λ (found : List Caution). note_cautions Digest ls ++ (found ++ (note_cautions Chroot marked ++ []))) (marked-note Time ls)
-    ∙ ap (λ (found : List Caution). note_cautions Digest ls ++ (note_cautions Time ls ++ (found ++ []))) (marked-note Chroot ls)
+    let chroot : List Caution = note_cautions Chroot marked in
+    let regex : List Caution = note_cautions Regex marked in
+    let first : List Caution = note_cautions Digest ls in
+    let second : List Caution = note_cautions Time ls in
+    ap (λ (found : List Caution). found ++ (note_cautions Time marked ++ (chroot ++ (regex ++ [])))) (marked-note Digest ls)
+    ∙ ap (λ (found : List Caution). first ++ (found ++ (chroot ++ (regex ++ [])))) (marked-note Time ls)
+    ∙ ap (λ (found : List Caution). first ++ (second ++ (found ++ (regex ++ [])))) (marked-note Chroot ls)
+    ∙ ap (λ (found : List Caution). first ++ (second ++ (note_cautions Chroot ls ++ (found ++ [])))) (marked-note Regex ls)

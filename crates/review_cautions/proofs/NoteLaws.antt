@@ -12,7 +12,7 @@ use Rattle.sudo_grammar.specs.declared.kind.Member.{Member}
 use Rattle.sudo_policy.specs.Definitions.{MemberList}
 use Rattle.review_texts.specs.Notes.{front_of, note_of, note_path}
 use Rattle.review_texts.specs.declared.note.Note.{Note}
-use Rattle.review_texts.specs.declared.note.Note.TheVariants.{Digest, Time, Chroot}
+use Rattle.review_texts.specs.declared.note.Note.TheVariants.{Digest, Time, Chroot, Regex}
 use Rattle.review_cautions.specs.ListTests.{is_of_commands}
 use Rattle.review_cautions.specs.NoteTests.{is_note, stands_for, list_has_note}
 use Rattle.review_cautions.specs.Marks.{is_plain, atom_is_plain, token_is_plain, is_marked, list_is_marked}
@@ -26,18 +26,20 @@ differ f xs ys apart = by (bytes_eq xs ys) refl
     by true e = apart (ap f (bytes_eq-is xs ys e))
     by false e = e
 
-none_found : (e d t c : Bool) → d ≡ false → t ≡ false → c ≡ false
-    → cond e (cond d (Some Digest) (cond t (Some Time) (cond c (Some Chroot) None))) None ≡ None
-none_found true false false false hd ht hc = refl
-none_found false false false false hd ht hc = refl
-none_found e true t c hd ht hc = absurd cc
-none_found e d true c hd ht hc = absurd cc
-none_found e d t true hd ht hc = absurd cc
+none_found : (e d t c r : Bool) → d ≡ false → t ≡ false → c ≡ false → r ≡ false
+    → cond e (cond d (Some Digest) (cond t (Some Time) (cond c (Some Chroot) (cond r (Some Regex) None)))) None ≡ None
+none_found true false false false false hd ht hc hr = refl
+none_found false false false false false hd ht hc hr = refl
+none_found e true t c r hd ht hc hr = absurd cc
+none_found e d true c r hd ht hc hr = absurd cc
+none_found e d t true r hd ht hc hr = absurd cc
+none_found e d t c true hd ht hc hr = absurd cc
 
 -- a path that is that of no note stands for none
 no_note : (path : List Ch) → ((note : Note) → bytes_eq (front_of path) (note_path note) ≡ false) → note_of path ≡ None
 no_note path other = none_found (has_no_escape path) (bytes_eq (front_of path) (note_path Digest))
-    (bytes_eq (front_of path) (note_path Time)) (bytes_eq (front_of path) (note_path Chroot)) (other Digest) (other Time) (other Chroot)
+    (bytes_eq (front_of path) (note_path Time)) (bytes_eq (front_of path) (note_path Chroot))
+    (bytes_eq (front_of path) (note_path Regex)) (other Digest) (other Time) (other Chroot) (other Regex)
 
 abbrev is_bracket : ℕ → Bool
 is_bracket b = b == 91
@@ -46,6 +48,7 @@ bracketed : (note : Note) → list_any is_bracket (note_path note) ≡ true
 bracketed Digest = refl
 bracketed Time = refl
 bracketed Chroot = refl
+bracketed Regex = refl
 
 no_bracket : (c : Ch) → is_plain c ≡ true → is_bracket c.byte ≡ false
 no_bracket c h = grind arith
@@ -75,6 +78,7 @@ no_such : (note : Note) → is_note note None ≡ false
 no_such Digest = refl
 no_such Time = refl
 no_such Chroot = refl
+no_such Regex = refl
 
 plain_stands : (note : Note) (a : Atom) → atom_is_plain a ≡ true → stands_for note a ≡ false
 plain_stands note (atoms.Command path None) h = ap (is_note note) (plain_note path (plain_path path None h)) ∙ no_such note

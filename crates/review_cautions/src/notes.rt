@@ -22,6 +22,7 @@ fn is_note(note: Note, found: Option<Note>) -> bool
         Note::Digest => matches!(found, Some(Note::Digest)),
         Note::Time => matches!(found, Some(Note::Time)),
         Note::Chroot => matches!(found, Some(Note::Chroot)),
+        Note::Regex => matches!(found, Some(Note::Regex)),
     }
 }
 
@@ -99,5 +100,6 @@ pub(crate) fn push_notes(
 {
     push_noted(alloc, Note::Digest, lists, found)?;
     push_noted(alloc, Note::Time, lists, found)?;
-    push_noted(alloc, Note::Chroot, lists, found)
+    push_noted(alloc, Note::Chroot, lists, found)?;
+    push_noted(alloc, Note::Regex, lists, found)
 }

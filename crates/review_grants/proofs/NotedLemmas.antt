@@ -26,7 +26,7 @@ use Rattle.sudo_policy.proofs.FollowingLemmas.{option_join-parts, option_map-som
 use Rattle.sudo_text.specs.declared.line.Place.{Place}
 use Rattle.sudo_verdict.specs.Grants.{Grant, body_grants, entry_grants, grant_of, grants, place_grants, section_grants}
 use Rattle.review_texts.specs.declared.note.Note.{Note}
-use Rattle.review_texts.specs.declared.note.Note.TheVariants.{Digest, Time, Chroot}
+use Rattle.review_texts.specs.declared.note.Note.TheVariants.{Digest, Time, Chroot, Regex}
 use Rattle.review_texts.specs.Notes.{note_in, notes}
 use Rattle.review_grants.specs.declared.marks.Marks.{Marks}
 use Rattle.review_grants.specs.declared.depends.NotedPlaces.{NotedPlaces}
@@ -278,11 +278,12 @@ filter-alike f g same (x ∷ xs) =
 
 -- a table of all notes of a policy
 -- marks of the same notes are the same
-pub same-marks : (a b : Marks) → a.digest ≡ b.digest → a.time ≡ b.time → a.chroot ≡ b.chroot → a ≡ b
-same-marks a b first second third =
-    ap (λ d. record { digest = d; time = a.time; chroot = a.chroot }) first
-    ∙ ap (λ t. record { digest = b.digest; time = t; chroot = a.chroot }) second
-    ∙ ap (λ c. record { digest = b.digest; time = b.time; chroot = c }) third
+pub same-marks : (a b : Marks) → a.digest ≡ b.digest → a.time ≡ b.time → a.chroot ≡ b.chroot → a.regex ≡ b.regex → a ≡ b
+same-marks a b first second third fourth =
+    ap (λ d. record { digest = d; time = a.time; chroot = a.chroot; regex = a.regex }) first
+    ∙ ap (λ t. record { digest = b.digest; time = t; chroot = a.chroot; regex = a.regex }) second
+    ∙ ap (λ c. record { digest = b.digest; time = b.time; chroot = c; regex = a.regex }) third
+    ∙ ap (λ r. record { digest = b.digest; time = b.time; chroot = b.chroot; regex = r }) fourth
 
 pub all-noted : (p : Policy) (t : NotedPlaces) (found : List Noted) → found ≡ policy_notes p
     → ((at : Place) (note : Note) → is_marked (get same_key t.marks (key_of at)) note ≡ list_any (is_noted at note) found)
@@ -293,7 +294,8 @@ all-noted p t found are marks = λ at. filter-alike (is_marked (get same_key t.m
 pub all-marked : (p : Policy) (t : NotedPlaces) (found : List Noted) → found ≡ policy_notes p
     → ((at : Place) (note : Note) → is_marked (get same_key t.marks (key_of at)) note ≡ list_any (is_noted at note) found)
     → IsMarked p t
-all-marked p t found are marks = λ at. same-marks (marks_in t at) (marks_at p at) (one at Digest) (one at Time) (one at Chroot)
+all-marked p t found are marks = λ at.
+    same-marks (marks_in t at) (marks_at p at) (one at Digest) (one at Time) (one at Chroot) (one at Regex)
   where
     one : (at : Place) (note : Note) → is_marked (get same_key t.marks (key_of at)) note ≡ is_noted_at p at note
     one at note = marks at note ∙ ap (list_any (is_noted at note)) are ∙ noted-grants p at note

@@ -7,7 +7,7 @@ use Rattle.sudo_verdict.specs.Last.{last_that}
 use Rattle.sudo_verdict.specs.Verdicts.{decided_by, verdict_by, verdict_if_any, verdict_on}
 use Rattle.sudo_verdict.specs.Values.{is_all}
 use Rattle.review_texts.specs.declared.note.Note.{Note}
-use Rattle.review_texts.specs.declared.note.Note.TheVariants.{Digest, Time, Chroot}
+use Rattle.review_texts.specs.declared.note.Note.TheVariants.{Digest, Time, Chroot, Regex}
 use Rattle.review_grants.specs.Depends.{depends_at, depends_text, notes_at, verdict_depends}
 use Rattle.review_grants.specs.Unnoted.{LastHolds, NoneHolds, VerdictHolds}
 
@@ -58,6 +58,7 @@ no-name [] h = refl
 no-name (Digest ∷ found) h = cc
 no-name (Time ∷ found) h = cc
 no-name (Chroot ∷ found) h = cc
+no-name (Regex ∷ found) h = cc
 
 -- the verdict of a grant depends on what the grants at its place do
 of-grant : (p : Policy) (g : Grant) → verdict_depends p (verdict_by g) ≡ depends_at p g.place

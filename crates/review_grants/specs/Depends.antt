@@ -1,5 +1,6 @@
--- What the grants of a rule depend on besides the words of a request: the digest of a file, the time, another root. In a masked
--- text a command that fits nothing stands for it (a note). It is one of the written-out commands, at the place of its rule.
+-- What the grants of a rule depend on that is not judged: the digest of a file, the time, another root, a regular expression. In
+-- a masked text a command that fits nothing stands for it (a note). It is one of the written-out commands, at the place of its
+-- rule.
 use Rattle.std.specs.Prelude.{◌≡◌, ℕ, Bool, true, false, not, ◌&&◌, ◌||◌, ◌==◌, List, [], ◌∷◌, drop, filter, flat_map}
 use Rattle.std.specs.Prelude.{Option, Some, None, is_some}
 use Rattle.std.specs.HashMap.{get}
@@ -10,7 +11,7 @@ use Rattle.sudo_match.specs.declared.request.Verdict.TheVariants.{Allow, Deny}
 use Rattle.sudo_text.specs.declared.line.Place.{Place}
 use Rattle.sudo_verdict.specs.Grants.{Grant, grants}
 use Rattle.review_texts.specs.declared.note.Note.{Note}
-use Rattle.review_texts.specs.declared.note.Note.TheVariants.{Digest, Time, Chroot}
+use Rattle.review_texts.specs.declared.note.Note.TheVariants.{Digest, Time, Chroot, Regex}
 use Rattle.review_texts.specs.Notes.{note_in, note_name, notes}
 use Rattle.review_grants.specs.declared.marks.Marks.{Marks}
 use Rattle.review_grants.specs.declared.depends.NotedPlaces.{NotedPlaces}
@@ -23,6 +24,7 @@ abbrev pub same_note : Note → Note → Bool
 same_note Digest Digest = true
 same_note Time Time = true
 same_note Chroot Chroot = true
+same_note Regex Regex = true
 same_note _ _ = false
 
 abbrev pub is_note : Note → Option Note → Bool
@@ -54,17 +56,27 @@ depends_at p at = depends_text (notes_at p at)
 
 -- which notes the grants at the place have
 abbrev pub marks_at : Policy → Place → Marks
-marks_at p at = record { digest = is_noted_at p at Digest; time = is_noted_at p at Time; chroot = is_noted_at p at Chroot }
+marks_at p at = record {
+  digest = is_noted_at p at Digest;
+  time = is_noted_at p at Time;
+  chroot = is_noted_at p at Chroot;
+  regex = is_noted_at p at Regex;
+}
 
 abbrev pub unmarked : Marks
-unmarked = record { digest = false; time = false; chroot = false }
+unmarked = record { digest = false; time = false; chroot = false; regex = false }
 
 abbrev pub is_unmarked : Marks → Bool
-is_unmarked m = not m.digest && (not m.time && not m.chroot)
+is_unmarked m = not m.digest && (not m.time && (not m.chroot && not m.regex))
 
 -- the notes of both
 abbrev pub joined_marks : Marks → Marks → Marks
-joined_marks a b = record { digest = a.digest || b.digest; time = a.time || b.time; chroot = a.chroot || b.chroot }
+joined_marks a b = record {
+  digest = a.digest || b.digest;
+  time = a.time || b.time;
+  chroot = a.chroot || b.chroot;
+  regex = a.regex || b.regex;
+}
 
 -- what a verdict depends on: what the grants at its place do
 abbrev pub verdict_depends : Policy → Verdict → List ℕ
@@ -86,6 +98,7 @@ abbrev pub has_mark : Marks → Note → Bool
 has_mark m Digest = m.digest
 has_mark m Time = m.time
 has_mark m Chroot = m.chroot
+has_mark m Regex = m.regex
 
 abbrev pub is_marked : Option Marks → Note → Bool
 is_marked None note = false
@@ -110,6 +123,7 @@ marks_in t at = record {
   digest = is_marked (get same_key t.marks (key_of at)) Digest;
   time = is_marked (get same_key t.marks (key_of at)) Time;
   chroot = is_marked (get same_key t.marks (key_of at)) Chroot;
+  regex = is_marked (get same_key t.marks (key_of at)) Regex;
 }
 
 -- and these are which notes the grants of the policy have there

@@ -1,4 +1,5 @@
--- Which verdicts hold whatever is noted: whatever the digests, the times and the roots are. A test of grants stands for what
+-- Which verdicts hold whatever is noted: whatever the digests, the times and the roots are, and
+-- whatever the regular expressions fit. A test of grants stands for what
 -- sudo does: it may only fail where a grant applies, and only where its rule has a note.
 use Rattle.std.specs.Prelude.{◌≡◌, Bool, true, [], Some, None}
 use Rattle.sudo_grammar.specs.declared.policy.Policy.{Policy}

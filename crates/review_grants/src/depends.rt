@@ -1,4 +1,4 @@
-//! What the grants of a rule depend on besides the words of a request.
+//! What the grants of a rule depend on that is not judged.
 ghost use Rattle.std.specs.Prelude.{◌≡◌, ◌||◌, IfOk, OnOk};
 ghost use Rattle.std.specs.HashMap.{get};
 ghost use Rattle.std.specs.List.{list_any};
@@ -78,7 +78,8 @@ impl NotedPlaces {
         marks_at(&self.marks, at)
     }
 
-    /// Returns the names of what the grants at a place depend on, `digest`, `time` and `chroot`, with a blank between them.
+    /// Returns the names of what the grants at a place depend on, `digest`, `time`, `chroot` and `regex`, with a blank between
+    /// them.
     pub fn depends(&self, at: Place) -> &'static [u8]
         ensures { result.now ≡ spec.depends_text (spec.noted_in self.now at) }
     {

@@ -12,6 +12,7 @@ pub struct Marks {
     digest: bool,
     time: bool,
     chroot: bool,
+    regex: bool,
 }
 
 /// The marks of what depends on no note.
@@ -19,6 +20,7 @@ pub const UNMARKED: Marks = Marks {
     digest: false,
     time: false,
     chroot: false,
+    regex: false,
 };
 
 impl Marks {
@@ -31,6 +33,7 @@ impl Marks {
             Note::Digest => self.digest = true,
             Note::Time => self.time = true,
             Note::Chroot => self.chroot = true,
+            Note::Regex => self.regex = true,
         }
         self
     }
@@ -39,7 +42,7 @@ impl Marks {
     pub fn is_unmarked(self) -> bool
         ensures { result ≡ spec.is_unmarked self }
     {
-        !self.digest && !self.time && !self.chroot
+        !self.digest && !self.time && !self.chroot && !self.regex
     }
 
     /// Returns the marks of both.
@@ -50,22 +53,31 @@ impl Marks {
             digest: self.digest || other.digest,
             time: self.time || other.time,
             chroot: self.chroot || other.chroot,
+            regex: self.regex || other.regex,
         }
     }
 
-    /// Returns the names of the notes that are marked, `digest`, `time` and `chroot`, with a blank between them.
+    /// Returns the names of the notes that are marked, `digest`, `time`, `chroot` and `regex`, with a blank between them.
     pub fn text(self) -> &'static [u8]
         ensures { result.now ≡ spec.depends_text (filter (spec.has_mark self) notes) }
     {
-        match (self.digest, self.time, self.chroot) {
-            (false, false, false) => b"",
-            (true, false, false) => b"digest",
-            (false, true, false) => b"time",
-            (false, false, true) => b"chroot",
-            (true, true, false) => b"digest time",
-            (true, false, true) => b"digest chroot",
-            (false, true, true) => b"time chroot",
-            (true, true, true) => b"digest time chroot",
+        match (self.digest, self.time, self.chroot, self.regex) {
+            (false, false, false, false) => b"",
+            (true, false, false, false) => b"digest",
+            (false, true, false, false) => b"time",
+            (false, false, true, false) => b"chroot",
+            (true, true, false, false) => b"digest time",
+            (true, false, true, false) => b"digest chroot",
+            (false, true, true, false) => b"time chroot",
+            (true, true, true, false) => b"digest time chroot",
+            (false, false, false, true) => b"regex",
+            (true, false, false, true) => b"digest regex",
+            (false, true, false, true) => b"time regex",
+            (false, false, true, true) => b"chroot regex",
+            (true, true, false, true) => b"digest time regex",
+            (true, false, true, true) => b"digest chroot regex",
+            (false, true, true, true) => b"time chroot regex",
+            (true, true, true, true) => b"digest time chroot regex",
         }
     }
 }

@@ -21,11 +21,12 @@ use Rattle.review_roots.proofs.NoteLemmas.{or-false}
 
 pub joined-none : (m : Marks) → joined_marks m unmarked ≡ m
 joined-none m = same-marks (joined_marks m unmarked) m (or-false m.digest) (or-false m.time) (or-false m.chroot)
+    (or-false m.regex)
 
 joined-again : (m n : Marks) → joined_marks (joined_marks m n) n ≡ joined_marks m n
 joined-again m n =
     same-marks (joined_marks (joined_marks m n) n) (joined_marks m n)
-    (again m.digest n.digest) (again m.time n.time) (again m.chroot n.chroot)
+    (again m.digest n.digest) (again m.time n.time) (again m.chroot n.chroot) (again m.regex n.regex)
   where
     again : (a b : Bool) → ((a || b) || b) ≡ (a || b)
     again true b = refl
@@ -59,23 +60,19 @@ marks-by-effect : (own : Marks) (tags : Tags) (signs : List Sign) (m : Marks) �
 marks-by-effect own tags signs m = go (is_unmarked own) refl
   where
     unmarked-is : (k : Marks) → is_unmarked k ≡ true → k ≡ unmarked
-    unmarked-is k e = same-marks k unmarked (first k.digest k.time k.chroot e) (second k.digest k.time k.chroot e)
-        (third k.digest k.time k.chroot e)
+    unmarked-is k e =
+        let one = parts k.digest (not k.time && (not k.chroot && not k.regex)) e in
+        let two = parts k.time (not k.chroot && not k.regex) one.1 in
+        let three = parts k.chroot (not k.regex) two.1 in
+        same-marks k unmarked one.0 two.0 three.0 (last k.regex three.1)
       where
-        first : (a b c : Bool) → (not a && (not b && not c)) ≡ true → a ≡ false
-        first false b c e = refl
-        first true b c e = cc
+        parts : (a rest : Bool) → (not a && rest) ≡ true → (a ≡ false) × (rest ≡ true)
+        parts false rest e = (refl, e)
+        parts true rest e = cc
 
-        second : (a b c : Bool) → (not a && (not b && not c)) ≡ true → b ≡ false
-        second a false c e = refl
-        second false true c e = cc
-        second true true c e = cc
-
-        third : (a b c : Bool) → (not a && (not b && not c)) ≡ true → c ≡ false
-        third a b false e = refl
-        third false false true e = cc
-        third false true true e = cc
-        third true b true e = cc
+        last : (a : Bool) → not a ≡ true → a ≡ false
+        last false e = refl
+        last true e = cc
 
     own-is : (ss : List Sign) → is_unmarked own ≡ true → own_marks own ss ≡ unmarked
     own-is [] none = refl

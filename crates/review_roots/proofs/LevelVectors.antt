@@ -33,7 +33,7 @@ listed_at_most : level_of_signs ((false, false) ∷ (true, false) ∷ []) ≡ le
 listed_at_most = refl
 
 abbrev timed : Marks
-timed = record { digest = false; time = true; chroot = false }
+timed = record { digest = false; time = true; chroot = false; regex = false }
 
 -- !/bin/su behind ALL, at some times alone: at others every command
 denied_at_times : after_row timed level.All true false ≡ level.All

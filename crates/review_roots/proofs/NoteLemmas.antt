@@ -19,7 +19,7 @@ use Rattle.sudo_verdict.specs.RunasForms.{runas_allows}
 use Rattle.sudo_verdict.specs.Questions.{Question}
 use Rattle.sudo_verdict.specs.Grants.{Grant, applies}
 use Rattle.review_texts.specs.declared.note.Note.{Note}
-use Rattle.review_texts.specs.declared.note.Note.TheVariants.{Digest, Time, Chroot}
+use Rattle.review_texts.specs.declared.note.Note.TheVariants.{Digest, Time, Chroot, Regex}
 use Rattle.review_texts.specs.Notes.{front_of, note_in, note_path, notes}
 use Rattle.review_texts.proofs.NoPath.{note_fits_nothing}
 use Rattle.review_grants.specs.declared.marks.Marks.{Marks}
@@ -65,16 +65,17 @@ found-unfit : (path : List Ch) (c x : List ℕ) → (b : Bool) → has_no_escape
 found-unfit path c x false is e = cc
 found-unfit path c x true is e =
     go (bytes_eq (front_of path) (note_path Digest)) refl (bytes_eq (front_of path) (note_path Time)) refl
-    (bytes_eq (front_of path) (note_path Chroot)) refl e
+    (bytes_eq (front_of path) (note_path Chroot)) refl (bytes_eq (front_of path) (note_path Regex)) refl e
   where
     go : (d : Bool) → bytes_eq (front_of path) (note_path Digest) ≡ d → (t : Bool) → bytes_eq (front_of path) (note_path Time) ≡ t
-        → (r : Bool) → bytes_eq (front_of path) (note_path Chroot) ≡ r
-        → is_some (cond d (Some Digest) (cond t (Some Time) (cond r (Some Chroot) None))) ≡ true
+        → (r : Bool) → bytes_eq (front_of path) (note_path Chroot) ≡ r → (y : Bool) → bytes_eq (front_of path) (note_path Regex) ≡ y
+        → is_some (cond d (Some Digest) (cond t (Some Time) (cond r (Some Chroot) (cond y (Some Regex) None)))) ≡ true
         → command_fits (atom.Command path None) c x ≡ false
-    go true at t is_t r is_r e = path-unfit path Digest is at c x
-    go false is_d true at r is_r e = path-unfit path Time is at c x
-    go false is_d false is_t true at e = path-unfit path Chroot is at c x
-    go false is_d false is_t false is_r e = cc
+    go true at t is_t r is_r y is_y e = path-unfit path Digest is at c x
+    go false is_d true at r is_r y is_y e = path-unfit path Time is at c x
+    go false is_d false is_t true at y is_y e = path-unfit path Chroot is at c x
+    go false is_d false is_t false is_r true at e = path-unfit path Regex is at c x
+    go false is_d false is_t false is_r false is_y e = cc
 
 note-unfit : (a : Atom) (c x : List ℕ) → is_some (note_in a) ≡ true → command_fits a c x ≡ false
 note-unfit (atom.Command path None) c x e = found-unfit path c x (has_no_escape path) refl e
@@ -98,29 +99,34 @@ or-true false = refl
 -- a place without marks has no notes
 pub unmarked-unnoted : (p : Policy) (g : Grant) → is_unmarked (marks_at p g.place) ≡ true → notes_at p g.place ≡ []
 unmarked-unnoted p g e =
-    go (is_noted_at p g.place Digest) refl (is_noted_at p g.place Time) refl (is_noted_at p g.place Chroot) refl e
+    go (is_noted_at p g.place Digest) refl (is_noted_at p g.place Time) refl (is_noted_at p g.place Chroot) refl
+    (is_noted_at p g.place Regex) refl e
   where
     go : (d : Bool) → is_noted_at p g.place Digest ≡ d → (t : Bool) → is_noted_at p g.place Time ≡ t
-        → (r : Bool) → is_noted_at p g.place Chroot ≡ r → (not d && (not t && not r)) ≡ true → notes_at p g.place ≡ []
-    go false is_d false is_t false is_r e = rw is_d (rw is_t (rw is_r refl))
-    go true is_d t is_t r is_r e = cc
-    go false is_d true is_t r is_r e = cc
-    go false is_d false is_t true is_r e = cc
+        → (r : Bool) → is_noted_at p g.place Chroot ≡ r → (x : Bool) → is_noted_at p g.place Regex ≡ x
+        → (not d && (not t && (not r && not x))) ≡ true → notes_at p g.place ≡ []
+    go false is_d false is_t false is_r false is_x e = rw is_d (rw is_t (rw is_r (rw is_x refl)))
+    go true is_d t is_t r is_r x is_x e = cc
+    go false is_d true is_t r is_r x is_x e = cc
+    go false is_d false is_t true is_r x is_x e = cc
+    go false is_d false is_t false is_r true is_x e = cc
 
-all-none : (d t r : Bool) → d ≡ false → t ≡ false → r ≡ false → (not d && (not t && not r)) ≡ true
-all-none false false false x y z = refl
-all-none true t r x y z = cc
-all-none false true r x y z = cc
-all-none false false true x y z = cc
+all-none : (d t r x : Bool) → d ≡ false → t ≡ false → r ≡ false → x ≡ false → (not d && (not t && (not r && not x))) ≡ true
+all-none false false false false h i j k = refl
+all-none true t r x h i j k = cc
+all-none false true r x h i j k = cc
+all-none false false true x h i j k = cc
+all-none false false false true h i j k = cc
 
 -- marks that are joined with others that are some are some
 pub joined-marked : (a b : Marks) → is_unmarked b ≡ false → joined_marks a b ≡ unmarked → false ≡ true
 joined-marked a b some none =
     sym some
-    ∙ all-none b.digest b.time b.chroot
+    ∙ all-none b.digest b.time b.chroot b.regex
     (neither a.digest b.digest (ap (λ (m : Marks). m.digest) none)).1
     (neither a.time b.time (ap (λ (m : Marks). m.time) none)).1
     (neither a.chroot b.chroot (ap (λ (m : Marks). m.chroot) none)).1
+    (neither a.regex b.regex (ap (λ (m : Marks). m.regex) none)).1
 
 -- ---- Tests that may fail by notes
 

@@ -166,7 +166,7 @@ given_noted s t = step_given noted known web (known_groups known) s t
 -- su is denied at some times alone; and what stands before a denied ALL without a time does not count
 steps_noted :
     ((given_noted ben eve).level ≡ level.All)
-    × ((given_noted ben eve).marks ≡ record { digest = false; time = true; chroot = false })
+    × ((given_noted ben eve).marks ≡ record { digest = false; time = true; chroot = false; regex = false })
     × ((given_noted ben root).level ≡ level.None)
     × ((given_noted ben root).marks ≡ unmarked)
 unfolding reading_within written_form user_named user_fits group_fits host_fits tags_named

@@ -185,6 +185,7 @@ joined-assoc : (a b c : Marks) → joined_marks (joined_marks a b) c ≡ joined_
 joined-assoc a b c =
     same-marks (joined_marks (joined_marks a b) c) (joined_marks a (joined_marks b c))
     (or-assoc a.digest b.digest c.digest) (or-assoc a.time b.time c.time) (or-assoc a.chroot b.chroot c.chroot)
+    (or-assoc a.regex b.regex c.regex)
   where
     or-assoc : (x y z : Bool) → ((x || y) || z) ≡ (x || (y || z))
     or-assoc true y z = refl

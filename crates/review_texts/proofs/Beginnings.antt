@@ -3,7 +3,7 @@ use Rattle.std.proofs.Common.{◌≡◌, ℕ, Bool, true, false, List, [], ◌�
 use Rattle.std.specs.Prelude.{◌&&◌, ◌||◌, ◌==◌, ⊤, nat_eq, slice_index}
 use Rattle.std.specs.List.{list_any, starts_with}
 use Rattle.review_texts.specs.Body.Beginnings.{begins_as, begin_word}
-use Rattle.review_texts.specs.Words.{begins_word, words}
+use Rattle.review_texts.specs.Words.{begins_word, is_plus_or_caret, words}
 
 apart : (p q more : Bool) → (p && q) ≡ false → (p && (q && more)) ≡ false
 apart true true more none = absurd cc
@@ -53,7 +53,7 @@ all_none first rest ((a ∷ b ∷ more) ∷ ws) long none =
 pub no_word_at : (first : ℕ) (rest text : List ℕ) → text ≡ first ∷ rest → begin_word first (slice_index rest 0) ≡ false
     → begins_word text ≡ false
 no_word_at first rest text is none =
-    let none_as = or_left (list_any (begins_as first (slice_index rest 0)) words) (first == 43) none in
-    let no_plus = or_right (list_any (begins_as first (slice_index rest 0)) words) (first == 43) none in
-    ap begins_word is ∙ or_none (list_any (starts_with nat_eq (first ∷ rest)) words) (first == 43)
-    (all_none first rest words tt none_as) no_plus
+    let none_as = or_left (list_any (begins_as first (slice_index rest 0)) words) (is_plus_or_caret first) none in
+    let no_sign = or_right (list_any (begins_as first (slice_index rest 0)) words) (is_plus_or_caret first) none in
+    ap begins_word is ∙ or_none (list_any (starts_with nat_eq (first ∷ rest)) words) (is_plus_or_caret first)
+    (all_none first rest words tt none_as) no_sign

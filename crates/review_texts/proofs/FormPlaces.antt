@@ -2,7 +2,7 @@
 use Rattle.std.proofs.Common.{◌≡◌, ℕ, zero, suc, ◌+◌, ◌-◌, ◌<◌, ◌≤◌, Bool, true, false, not, List, [], ◌∷◌}
 use Rattle.std.proofs.Common.{length, drop, refl, sym, ◌∙◌, subst}
 use Rattle.std.proofs.Common.{Option, None, Some, inl, inr, arith}
-use Rattle.std.specs.Prelude.{◌&&◌, ◌==◌, if◌then◌else◌, codes, nat_eq, nat_lt, slice_index, MatchOption}
+use Rattle.std.specs.Prelude.{◌&&◌, ◌||◌, ◌==◌, if◌then◌else◌, codes, nat_eq, nat_lt, slice_index, MatchOption}
 use Rattle.sudo_text.specs.Rules.{begins_defaults}
 use Rattle.std.specs.List.{starts_with, take_while}
 use Rattle.std.proofs.lemmas.Bool.{cases_lt, and_parts, true≢false}
@@ -19,8 +19,9 @@ use Rattle.review_texts.specs.declared.readable.Readable.{Readable}
 use Rattle.review_texts.specs.Netgroups.{ends_name, is_known, netgroup_at, plus_at, spells_netgroup}
 use Rattle.review_texts.specs.Digests.{digest_size, digest_start, digest_at, digest_stop, is_digest}
 use Rattle.review_texts.specs.Digests.{may_follow as digest_may_follow, spells_digest}
+use Rattle.review_texts.specs.Expressions.{caret_of, dollar_of, expression_at, holds_expression, is_expression, is_file_at}
 use Rattle.review_texts.specs.Options.{is_option, name_at, equals_of, value_of, value_at, option_end, takes, spells_option}
-use Rattle.review_texts.specs.Places.{IsRefusedFor, spells_list, may_follow}
+use Rattle.review_texts.specs.Places.{IsRefusedFor, spells_expression, spells_list, may_follow}
 use Rattle.review_texts.specs.Masks.{Stands, is_fit, IsFirstStand, IsMask, IsUnmasked, IsBehind, behind}
 use Rattle.review_texts.proofs.LoneLines.{one_form}
 
@@ -86,12 +87,29 @@ no_netgroup known text at none spelled =
     let empty : (0 == 43) ≡ true = subst (λ (b : ℕ). (b == 43) ≡ true) (past_end text at none) here in
     true≢false (sym empty)
 
+no_expression : (text : List ℕ) (at : ℕ) → drop at text ≡ [] → spells_expression text at ≡ true → ⊥
+unfolding spells_expression
+no_expression text at none spelled =
+    let first = and_parts (holds_expression text at && may_follow text (dollar_of text at + 1)) (not (begins_defaults text)) spelled in
+    let second = and_parts (holds_expression text at) (may_follow text (dollar_of text at + 1)) first.0 in
+    let third = and_parts ((is_file_at text at || (slice_index text at == 94)) && (slice_index text (caret_of text at) == 94)
+    && is_expression false (expression_at text at)) (slice_index text (dollar_of text at) == 36) second.0 in
+    let fourth = and_parts ((is_file_at text at || (slice_index text at == 94)) && (slice_index text (caret_of text at) == 94))
+    (is_expression false (expression_at text at)) third.0 in
+    let fifth = and_parts (is_file_at text at || (slice_index text at == 94)) (slice_index text (caret_of text at) == 94) fourth.0 in
+    let empty : (((0 == 47) && not (slice_index text (at + length (value_at text at) - 1) == 47)
+    && is_blank (slice_index text (at + length (value_at text at)))) || (0 == 94)) ≡ true =
+    subst (λ (b : ℕ). (((b == 47) && not (slice_index text (at + length (value_at text at) - 1) == 47)
+    && is_blank (slice_index text (at + length (value_at text at)))) || (b == 94)) ≡ true) (past_end text at none) fifth.0 in
+    true≢false (sym empty)
+
 no_stand : (r : Readable) (line : Line) (form : Unsupported) (start end : ℕ) (put : List ℕ) → drop start line.text ≡ []
     → Stands r line form start end put → ⊥
 no_stand r line forms.CommandOption start end put none stands = no_option r.noted line.text start none stands.0.spelled
 no_stand r line forms.List start end put none stands = no_list line.text start none stands.0.spelled
 no_stand r line forms.Digest start end put none stands = no_digest line.text start none stands.1.spelled
 no_stand r line forms.Netgroup start end put none stands = no_netgroup r.netgroups.items line.text start none stands.0.spelled
+no_stand r line forms.RegularExpression start end put none stands = no_expression line.text start none stands.1.spelled
 no_stand r line _ start end put none stands = stands
 
 -- A form stands within the line.

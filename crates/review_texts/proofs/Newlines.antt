@@ -2,10 +2,11 @@
 use Rattle.std.proofs.Common.{◌≡◌, ℕ, zero, suc, ◌+◌, ◌-◌, Bool, true, false, cond, List, [], ◌∷◌, ◌++◌}
 use Rattle.std.proofs.Common.{length, drop, take, refl, sym, ◌∙◌, ap, subst, arith}
 use Rattle.std.proofs.Common.{Result, Ok, Err, Option, None, Some, inl, inr}
-use Rattle.std.specs.Prelude.{◌==◌, ◌&&◌, not, replicate, nat_le, nat_lt, nat_eq, codes, filter}
+use Rattle.std.specs.Prelude.{◌==◌, ◌&&◌, not, replicate, nat_le, nat_lt, nat_eq, codes, filter, slice_index, ◌/◌, ◌%◌}
 use Rattle.std.specs.Str.{bytes_eq}
 use Rattle.std.specs.List.{prefix_len, starts_with, take_while}
 use Rattle.std.proofs.lemmas.Bool.{and_parts, eqb-true, true≢false}
+use Rattle.std.proofs.lemmas.Bool.Decides.{nat_tests}
 use Rattle.std.proofs.lemmas.List.{take-append-drop}
 use Rattle.std.proofs.lemmas.List.Sums.{sum_by-append}
 use Rattle.sudo_text.specs.declared.line.Line.{Line}
@@ -16,11 +17,14 @@ use Rattle.sudo_grammar.specs.declared.fault.Unsupported.TheVariants as forms
 use Rattle.review_texts.specs.declared.readable.Readable.{Readable}
 use Rattle.review_texts.specs.declared.mask.Mask.{Mask}
 use Rattle.review_texts.specs.declared.note.Note.{Note}
-use Rattle.review_texts.specs.declared.note.Note.TheVariants.{Digest, Time, Chroot}
+use Rattle.review_texts.specs.declared.note.Note.TheVariants.{Digest, Time, Chroot, Regex}
 use Rattle.review_texts.specs.Notes.{note_path}
 use Rattle.review_texts.specs.Digests.{digest_at, digest_start, is_base64}
+use Rattle.review_texts.specs.Expressions.{bound_of, caret_of, command_at, digits_of, expression_at, folder_len}
+use Rattle.review_texts.specs.Expressions.{hex_digit, hex_of, is_below_folder, is_expression_byte}
 use Rattle.review_texts.specs.Options.{is_value_byte, name_at, value_at, value_of}
-use Rattle.review_texts.specs.Masks.{are_alike, is_fit, option_note, note_text, noted_letter, noted_option, replacement, Stands}
+use Rattle.review_texts.specs.Masks.{are_alike, expression_text, is_fit, option_note, note_text, noted_letter, noted_option}
+use Rattle.review_texts.specs.Masks.{replacement, Stands}
 use Rattle.review_texts.specs.Masks.{behind, IsBehind, IsMask, IsMasked, most_masks}
 use Rattle.review_texts.specs.MaskedTexts.{written, tears_defaults, spaced, IsBlock, AreBlocks, IsTextBy, IsMaskedBy, IsMaskedText}
 use Rattle.review_texts.specs.Words.{has_word, newline_count}
@@ -80,6 +84,7 @@ count_path : (note : Note) → newline_count (note_path note) ≡ 0
 count_path Digest = refl
 count_path Time = refl
 count_path Chroot = refl
+count_path Regex = refl
 
 count_note : (note : Note) (what : List ℕ) → newline_count what ≡ 0 → newline_count (note_text note what) ≡ 0
 count_note note what none =
@@ -103,6 +108,46 @@ count_option (Some note) w value none =
     let joined = count_append (noted_letter w) value in
     count_note note (noted_letter w ++ value) (omega (arith, none, letter, joined))
 
+digit_count : (n : ℕ) → (hex_digit n == 10) ≡ false
+digit_count n = grind (arith, nat_tests)
+
+count_hex : (bytes : List ℕ) → newline_count (hex_of bytes) ≡ 0
+count_hex [] = refl
+count_hex (b ∷ bytes) =
+    let first = count_one (hex_digit (b / 16)) (digit_count (b / 16)) in
+    let second = count_one (hex_digit (b % 16)) (digit_count (b % 16)) in
+    let digits = count_append (hex_digit (b / 16) ∷ []) (hex_digit (b % 16) ∷ []) in
+    let joined = count_append (digits_of b) (hex_of bytes) in
+    let rest = count_hex bytes in
+    omega (arith, first, second, digits, joined, rest)
+
+count_taken : (n : ℕ) (xs : List ℕ) → newline_count xs ≡ 0 → newline_count (take n xs) ≡ 0
+count_taken n xs none =
+    let whole = ap (λ (ys : List ℕ). newline_count ys) (take-append-drop n xs) in
+    let cut = count_append (take n xs) (drop n xs) in
+    omega (arith, none, whole, cut)
+
+count_bound : (xs : List ℕ) → newline_count xs ≡ 0 → newline_count (bound_of xs) ≡ 0
+count_bound xs none = by (is_below_folder xs)
+  where
+    by : (b : Bool) → newline_count (cond b (take (folder_len xs) xs) (codes "ALL")) ≡ 0
+    by true = count_taken (folder_len xs) xs none
+    by false = refl
+
+count_command : (text : List ℕ) (at : ℕ) → newline_count (command_at text at) ≡ 0
+count_command text at = by (slice_index text at == 47)
+  where
+    by : (b : Bool) → newline_count (cond b (value_at text at) (bound_of (expression_at text at))) ≡ 0
+    by true = count_front is_value_byte (drop at text) refl
+    by false = count_bound (expression_at text at) (count_front is_expression_byte (drop (caret_of text at + 1) text) refl)
+
+count_expression : (text : List ℕ) (at : ℕ) → newline_count (expression_text text at) ≡ 0
+count_expression text at =
+    let note = count_note Regex (hex_of (expression_at text at)) (count_hex (expression_at text at)) in
+    let command = count_command text at in
+    let joined = count_append (note_text Regex (hex_of (expression_at text at))) (command_at text at) in
+    omega (arith, note, command, joined)
+
 count_put : (r : Readable) (line : Line) (form : Unsupported) (start end : ℕ) (put : List ℕ) → Stands r line form start end put
     → newline_count put ≡ 0
 count_put r line forms.CommandOption start end put stands =
@@ -115,6 +160,7 @@ count_put r line forms.Digest start end put stands =
     ap newline_count stands.3 ∙ count_note Digest (filter (λ b. not (b == 61)) digest) (count_kept (λ b. not (b == 61)) digest
     (count_front is_base64 (drop (digest_start line.text start) line.text) refl))
 count_put r line forms.Netgroup start end put stands = stands.0.one_line
+count_put r line forms.RegularExpression start end put stands = ap newline_count stands.3 ∙ count_expression line.text start
 count_put r line _ start end put stands = absurd stands
 
 count_replaced : (mask : Mask) → newline_count mask.put ≡ 0 → newline_count (replacement mask) ≡ 0

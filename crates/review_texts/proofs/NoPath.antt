@@ -10,7 +10,7 @@ use Rattle.sudo_match.specs.Pattern.{begins, range_at, items_after, bracket_afte
 use Rattle.sudo_match.specs.Matching.{command_fits}
 use Rattle.review_texts.specs.Places.{no_path}
 use Rattle.review_texts.specs.declared.note.Note.{Note}
-use Rattle.review_texts.specs.declared.note.Note.TheVariants.{Digest, Time, Chroot}
+use Rattle.review_texts.specs.declared.note.Note.TheVariants.{Digest, Time, Chroot, Regex}
 use Rattle.review_texts.specs.Notes.{note_in, note_path}
 use Rattle.review_texts.specs.Laws.{noted_command}
 use Rattle.sudo_grammar.specs.Words.{has_no_escape}
@@ -68,6 +68,12 @@ note_fits_nothing Chroot what (a ∷ b ∷ []) arguments = whole_none _ (and_non
 note_fits_nothing Chroot what (a ∷ b ∷ c ∷ rest) arguments =
     whole_none _ (and_none (a == 47) _ (and_none (b == 99) _
     (bracket_none (not (c == 47)) _ (nat_le 122 c && nat_le c 97) (between c))))
+note_fits_nothing Regex what [] arguments = refl
+note_fits_nothing Regex what (a ∷ []) arguments = whole_none _ (and_none (a == 47) _ refl)
+note_fits_nothing Regex what (a ∷ b ∷ []) arguments = whole_none _ (and_none (a == 47) _ (and_none (b == 114) _ refl))
+note_fits_nothing Regex what (a ∷ b ∷ c ∷ rest) arguments =
+    whole_none _ (and_none (a == 47) _ (and_none (b == 114) _
+    (bracket_none (not (c == 47)) _ (nat_le 122 c && nat_le c 97) (between c))))
 
 no_escapes : (bytes : List ℕ) → has_no_escape (map plain bytes) ≡ true
 no_escapes [] = refl
@@ -81,3 +87,4 @@ pub note_found : (note : Note) (what : List ℕ) → note_in (noted_command note
 note_found Digest what = with_escape _ _ Digest (no_escapes (note_path Digest ++ what)) refl
 note_found Time what = with_escape _ _ Time (no_escapes (note_path Time ++ what)) refl
 note_found Chroot what = with_escape _ _ Chroot (no_escapes (note_path Chroot ++ what)) refl
+note_found Regex what = with_escape _ _ Regex (no_escapes (note_path Regex ++ what)) refl

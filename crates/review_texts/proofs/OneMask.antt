@@ -25,6 +25,8 @@ one_standing r line forms.Digest start end stop put other (on, stands, is, text)
     (is ∙ sym same, text ∙ sym written)
 one_standing r line forms.Netgroup start end stop put other (stands, is) (again, same) =
     (is ∙ sym same, one_members r.netgroups.items line start put other stands.members again.members)
+one_standing r line forms.RegularExpression start end stop put other (on, stands, is, text) (too, again, same, written) =
+    (is ∙ sym same, text ∙ sym written)
 one_standing r line _ start end stop put other stands again = absurd stands
 
 not_before : (r : Readable) (line : Line) (a b : Mask) → IsMask r line a → IsMask r line b → a.form ≡ b.form → b.start ≤ a.start

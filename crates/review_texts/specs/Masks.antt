@@ -14,12 +14,14 @@ use Rattle.review_texts.specs.declared.mask.Mask.{Mask}
 use Rattle.review_texts.specs.declared.readable.Readable.{Readable}
 use Rattle.review_texts.specs.Words.{has_word, newline_count}
 use Rattle.review_texts.specs.declared.note.Note.{Note}
-use Rattle.review_texts.specs.declared.note.Note.TheVariants.{Digest, Time, Chroot}
+use Rattle.review_texts.specs.declared.note.Note.TheVariants.{Digest, Time, Chroot, Regex}
 use Rattle.review_texts.specs.Notes.{note_path}
 use Rattle.review_texts.specs.Options.{name_at, option_end, value_at, value_of}
 use Rattle.review_texts.specs.Digests.{digest_at, digest_end, digest_start}
+use Rattle.review_texts.specs.Expressions.{command_at, dollar_of, expression_at, hex_of}
 use Rattle.review_texts.specs.Netgroups.{netgroup_end}
-use Rattle.review_texts.specs.Places.{IsRefusedFor, with_text, StandsOption, StandsList, StandsDigest, StandsNetgroup, no_path}
+use Rattle.review_texts.specs.Places.{IsRefusedFor, with_text, no_path}
+use Rattle.review_texts.specs.Places.{StandsOption, StandsList, StandsDigest, StandsExpression, StandsNetgroup}
 
 -- the note of an option
 abbrev pub option_note : List ℕ → Option Note
@@ -52,8 +54,13 @@ option_text text at = noted_option (option_note (name_at text at)) (name_at text
 abbrev pub digest_text : List ℕ → ℕ → List ℕ
 digest_text text at = note_text Digest (filter (λ b. not (b == 61)) (digest_at text (digest_start text at)))
 
--- a form stands from an offset up to another, and this stands in its place: a note for a digest and for some options, a path that no
--- command has for `list`, and the members of a netgroup
+-- what stands in place of the regular expression that begins at an offset of a text: its note, and the path that it is behind,
+-- with whichever arguments, or what bounds the paths that it fits
+abbrev pub expression_text : List ℕ → ℕ → List ℕ
+expression_text text at = note_text Regex (hex_of (expression_at text at)) ++ command_at text at
+
+-- a form stands from an offset up to another, and this stands in its place: a note for a digest and for some options, a note and
+-- a command for a regular expression, a path that no command has for `list`, and the members of a netgroup
 abbrev pub Stands : Readable → Line → Unsupported → ℕ → ℕ → List ℕ → Type 0
 Stands r line forms.CommandOption start end put =
     StandsOption r.noted line start × (end ≡ suc (option_end line.text start)) × (put ≡ option_text line.text start)
@@ -61,6 +68,8 @@ Stands r line forms.List start end put = StandsList line start × (end ≡ start
 Stands r line forms.Digest start end put =
     (r.noted ≡ true) × StandsDigest line start × (end ≡ digest_end line.text start) × (put ≡ digest_text line.text start)
 Stands r line forms.Netgroup start end put = StandsNetgroup r.netgroups.items line start put × (end ≡ netgroup_end line.text start)
+Stands r line forms.RegularExpression start end put =
+    (r.noted ≡ true) × StandsExpression line start × (end ≡ dollar_of line.text start + 1) × (put ≡ expression_text line.text start)
 Stands r line _ start end put = ⊥
 
 -- two physical lines are joined where neither a blank nor a comma stands before the join, or an escaped one, or where a

@@ -1,5 +1,5 @@
--- What decides for sudo besides the words of a request: the digest of a command's file, the time, another root. It is not
--- judged. In a masked text a command that fits nothing stands for it, in the list before the first command that it is about.
+-- What decides for sudo and is not judged: the digest of a command's file, the time, another root, a regular expression. In a
+-- masked text a command that fits nothing stands for it, in the list before the first command that it is about.
 use Rattle.std.specs.Prelude.{ℕ, List, [], ◌∷◌, codes, find, take, if◌then◌else◌, Option, None}
 use Rattle.std.specs.Str.{bytes_eq}
 use Rattle.sudo_text.specs.declared.token.Ch.{Ch}
@@ -7,23 +7,26 @@ use Rattle.sudo_grammar.specs.declared.kind.Atom.{Atom}
 use Rattle.sudo_grammar.specs.declared.kind.Atom.TheVariants as atoms
 use Rattle.sudo_grammar.specs.Words.{bytes_of, has_no_escape}
 use Rattle.review_texts.specs.declared.note.Note.{Note}
-use Rattle.review_texts.specs.declared.note.Note.TheVariants.{Digest, Time, Chroot}
+use Rattle.review_texts.specs.declared.note.Note.TheVariants.{Digest, Time, Chroot, Regex}
 
 -- the notes, in the order in which they are listed
 abbrev pub notes : List Note
-notes = Digest ∷ Time ∷ Chroot ∷ []
+notes = Digest ∷ Time ∷ Chroot ∷ Regex ∷ []
 
 abbrev pub note_name : Note → List ℕ
 note_name Digest = codes "digest"
 note_name Time = codes "time"
 note_name Chroot = codes "chroot"
+note_name Regex = codes "regex"
 
 -- the seven bytes with which a path begins that stands for a note: no command has such a path, since its brackets have no
--- character. Behind them stands what is noted, so that unlike digests, times and roots are unlike commands
+-- character. Behind them stands what is noted, so that unlike digests, times, roots and expressions are unlike
+-- commands
 abbrev pub note_path : Note → List ℕ
 note_path Digest = codes "/d[z-a]"
 note_path Time = codes "/t[z-a]"
 note_path Chroot = codes "/c[z-a]"
+note_path Regex = codes "/r[z-a]"
 
 -- the first seven bytes of a path
 abbrev pub front_of : List Ch → List ℕ

@@ -1,6 +1,6 @@
 -- Where a form stands that is refused by name and can be masked: for each form the line up to it, with nothing or with a
 -- command in its place, is itself read, and what is read says that a command has to stand there.
-use Rattle.std.specs.Prelude.{◌≡◌, ℕ, ◌+◌, ◌-◌, Bool, true, false, ◌&&◌, ◌||◌, ◌==◌, nat_eq, nat_le, if◌then◌else◌}
+use Rattle.std.specs.Prelude.{◌≡◌, ℕ, ◌+◌, ◌-◌, Bool, true, false, not, ◌&&◌, ◌||◌, ◌==◌, nat_eq, nat_le, if◌then◌else◌}
 use Rattle.std.specs.Prelude.{List, [], ◌++◌, length, take, drop, slice_get, slice_index, codes, Option, None, Some, is_some}
 use Rattle.std.specs.List.{starts_with}
 use Rattle.std.specs.Option.{option_and_then, option_map}
@@ -20,6 +20,7 @@ use Rattle.sudo_grammar.specs.States.{Room}
 use Rattle.sudo_parser.specs.Parsed.{room_after, IsEntryOf, IsGrammarFaultOf}
 use Rattle.review_texts.specs.Options.{name_end, spells_option}
 use Rattle.review_texts.specs.Digests.{spells_digest}
+use Rattle.review_texts.specs.Expressions.{dollar_of, holds_expression}
 use Rattle.review_texts.specs.Words.{newline_count}
 use Rattle.review_texts.specs.Netgroups.{list_for, netgroup_at, sign_at, spells_netgroup}
 use Rattle.review_texts.specs.declared.netgroups.Members.{Members}
@@ -115,6 +116,20 @@ is_first_at at (Some member) = (member.bangs == 0) && (member.token.start == at)
 -- that ends in a list of commands whose last one begins there, without `!` before it.
 pub record StandsDigest (line : Line) (at : ℕ) : Type 0 where
   pub spelled : spells_digest line.text at ≡ true
+  pub entry : EntryBody
+  pub read : IsEntryIn (with_text line (with_path line.text at)) entry
+  pub first : is_first_at at (last_command entry) ≡ true
+
+-- a regular expression is spelled at an offset, as a command or behind a path, and the list of commands goes on or ends behind
+-- it; not in a Defaults line
+unfoldable pub spells_expression : List ℕ → ℕ → Bool
+spells_expression text at =
+    holds_expression text at && may_follow text (dollar_of text at + 1) && not (begins_defaults text)
+
+-- A regular expression stands at an offset: it is spelled there, and the line up to it, with a path in its place, is read as a
+-- line that ends in a list of commands whose last one begins there, without `!` before it.
+pub record StandsExpression (line : Line) (at : ℕ) : Type 0 where
+  pub spelled : spells_expression line.text at ≡ true
   pub entry : EntryBody
   pub read : IsEntryIn (with_text line (with_path line.text at)) entry
   pub first : is_first_at at (last_command entry) ≡ true

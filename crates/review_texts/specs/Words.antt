@@ -1,5 +1,5 @@
 -- The words without which nothing of a text is written otherwise: the names of options and of digests, `list`, the word of a
--- Defaults line with a backslash, and the plus sign of a netgroup.
+-- Defaults line with a backslash, the plus sign of a netgroup, and the caret of a regular expression.
 use Rattle.std.specs.Prelude.{ℕ, Bool, false, ◌||◌, ◌==◌, nat_eq, List, [], ◌∷◌, codes, count_by, slice_index}
 use Rattle.std.specs.List.{list_any, starts_with}
 
@@ -7,9 +7,12 @@ abbrev pub words : List (List ℕ)
 words = codes "list" ∷ codes "CWD" ∷ codes "TIMEOUT" ∷ codes "ROLE" ∷ codes "TYPE" ∷ codes "CHROOT" ∷ codes "NOTBEFORE"
     ∷ codes "NOTAFTER" ∷ codes "sha224:" ∷ codes "sha256:" ∷ codes "sha384:" ∷ codes "sha512:" ∷ codes "Defaults\\" ∷ []
 
--- one of the words begins a text, or a plus sign
+abbrev pub is_plus_or_caret : ℕ → Bool
+is_plus_or_caret b = (b == 43) || (b == 94)
+
+-- one of the words begins a text, or a plus sign or a caret
 abbrev pub begins_word : List ℕ → Bool
-begins_word text = list_any (starts_with nat_eq text) words || (slice_index text 0 == 43)
+begins_word text = list_any (starts_with nat_eq text) words || is_plus_or_caret (slice_index text 0)
 
 -- one of the words stands in a text
 abbrev pub has_word : List ℕ → Bool

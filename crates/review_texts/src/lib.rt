@@ -3,6 +3,7 @@
 
 mod bytes;
 mod digests;
+mod expressions;
 mod files;
 mod laws;
 mod listed;

@@ -8,7 +8,7 @@ ghost use Rattle.review_texts.specs.Notes.{note_path, notes};
 use sudo_grammar::Atom;
 use sudo_text::Ch;
 
-/// What decides for sudo besides the words of a request, and is not judged, in the order in which notes are listed.
+/// What decides for sudo and is not judged, in the order in which notes are listed.
 #[derive(Clone, Copy, Debug, PartialEq, Eq)]
 pub enum Note {
     /// The digest of a command's file.
@@ -17,6 +17,8 @@ pub enum Note {
     Time,
     /// The root below which a command is run.
     Chroot,
+    /// The regular expression that a command or its arguments have to fit.
+    Regex,
 }
 
 impl Note {
@@ -28,6 +30,7 @@ impl Note {
             Note::Digest => b"digest",
             Note::Time => b"time",
             Note::Chroot => b"chroot",
+            Note::Regex => b"regex",
         }
     }
 }
@@ -68,6 +71,8 @@ fn named_note(front: &[Ch]) -> Option<Note>
         Some(Note::Time)
     } else if spells(front, b"/c[z-a]") {
         Some(Note::Chroot)
+    } else if spells(front, b"/r[z-a]") {
+        Some(Note::Regex)
     } else {
         None
     }

@@ -6,6 +6,7 @@ ghost use Rattle.review_texts.specs.Places as spec;
 
 use crate::bytes::{begins_defaults, from, is_blank, peek, skip};
 use crate::digests::spells_digest;
+use crate::expressions::{dollar_of, holds_expression};
 use crate::options::{name_end, spells_option};
 use crate::reading::entry_in;
 use std::alloc::{AllocError, Global};
@@ -231,6 +232,31 @@ pub(crate) fn digest_stands(alloc: Global, line: &Line, at: usize) -> Result<boo
     ensures long { IfOk result (λ found. IsTrue found → at + 7 ≤ length line.now.text) }
 {
     if !spells_digest(line.text.as_slice(), at) {
+        return Ok(false);
+    }
+    let front = line_with_path(alloc, line, at)?;
+    reads_first(alloc, &front, at)
+}
+
+// Whether a regular expression is spelled at an offset, and the list of commands goes on or ends behind it.
+#[tactic(auto, unfolding(crate::specs::Places::spells_expression))]
+fn spells_expression(text: &[u8], at: usize) -> bool
+    requires { at ≤ length text.now }
+    ensures { result ≡ spec.spells_expression text.now at }
+{
+    holds_expression(text, at)
+        && may_follow(text, dollar_of(text, at) + 1)
+        && !begins_defaults(text)
+}
+
+/// Whether a regular expression stands at an offset. Returns `AllocError` if allocation fails.
+pub(crate) fn expression_stands(alloc: Global, line: &Line, at: usize) -> Result<bool, AllocError>
+    requires within { at ≤ length line.now.text }
+    requires short { length line.now.text + 16 ≤ TEXT_LIMIT }
+    ensures yes { IfOk result (λ found. IsTrue found → spec.StandsExpression line.now at) }
+    ensures only { IfOk result (λ found. spec.StandsExpression line.now at → IsTrue found) }
+{
+    if !spells_expression(line.text.as_slice(), at) {
         return Ok(false);
     }
     let front = line_with_path(alloc, line, at)?;

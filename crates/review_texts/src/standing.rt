@@ -7,10 +7,11 @@ ghost use Rattle.review_texts.specs.Notes.{note_path};
 
 use crate::bytes::is_text;
 use crate::digests::{digest_at, digest_end, digest_start};
+use crate::expressions::{command_at, dollar_of, expression_at, push_hex};
 use crate::listed::netgroup_members;
 use crate::netgroups::netgroup_end;
 use crate::options::{name_at, option_end, value_at, value_of};
-use crate::places::{NO_PATH, digest_stands, list_stands, option_stands};
+use crate::places::{NO_PATH, digest_stands, expression_stands, list_stands, option_stands};
 use crate::{Note, Readable};
 use std::alloc::{AllocError, Global};
 use sudo_grammar::Unsupported;
@@ -44,6 +45,7 @@ fn note_path(note: Note) -> &'static [u8]
         Note::Digest => b"/d[z-a]",
         Note::Time => b"/t[z-a]",
         Note::Chroot => b"/c[z-a]",
+        Note::Regex => b"/r[z-a]",
     }
 }
 
@@ -116,6 +118,18 @@ fn digest_text(alloc: Global, text: &[u8], at: usize) -> Result<Seq<u8>, AllocEr
     Ok(put)
 }
 
+// Returns what stands in place of the regular expression that begins at an offset of a text.
+fn expression_text(alloc: Global, text: &[u8], at: usize) -> Result<Seq<u8>, AllocError>
+    requires { at ≤ length text.now }
+    ensures { IfOk result (λ put. put ≡ spec.expression_text text.now at) }
+{
+    let mut put = Seq::from_slice(alloc, b"/r[z-a]")?;
+    push_hex(expression_at(text, at), &mut put)?;
+    put.push(b',')?;
+    put.extend_from_slice(command_at(text, at))?;
+    Ok(put)
+}
+
 // Returns the end of the option at an offset, and what stands in its place, if it stands there.
 fn option_standing(
     alloc: Global,
@@ -182,6 +196,29 @@ fn digest_standing(
     Ok(Some(Standing { end, put }))
 }
 
+// The same of a regular expression.
+fn expression_standing(
+    alloc: Global,
+    readable: &Readable,
+    line: &Line,
+    at: usize,
+) -> Result<Option<Standing>, AllocError>
+    requires within { at ≤ length line.now.text }
+    requires short { length line.now.text + 16 ≤ TEXT_LIMIT }
+    ensures { IfOk result (λ found. MatchOption found
+        ((end : ℕ) (put : List ℕ)
+        → Stands readable.now line.now Unsupported.RegularExpression at end put → ⊥)
+        (λ s. Stands readable.now line.now Unsupported.RegularExpression at s.end s.put)) }
+{
+    if !readable.noted || !expression_stands(alloc, line, at)? {
+        return Ok(None);
+    }
+    let text = line.text.as_slice();
+    let put = expression_text(alloc, text, at)?;
+    let end = dollar_of(text, at) + 1;
+    Ok(Some(Standing { end, put }))
+}
+
 // The same of a netgroup.
 fn netgroup_standing(
     alloc: Global,
@@ -223,6 +260,7 @@ pub(crate) fn stands(
         Unsupported::List => list_standing(alloc, readable, line, at),
         Unsupported::Digest => digest_standing(alloc, readable, line, at),
         Unsupported::Netgroup => netgroup_standing(alloc, readable, line, at),
+        Unsupported::RegularExpression => expression_standing(alloc, readable, line, at),
         _ => Ok(None),
     }
 }

@@ -253,6 +253,64 @@ fn a_list_becomes_a_path(rt: HostRuntime) -> Result<(), Fail> {
 }
 
 #[test]
+fn an_expression_becomes_a_note_and_a_command(rt: HostRuntime) -> Result<(), Fail> {
+    let rows = [
+        (
+            "u ALL = (root) /b ^(restart|status) (a|b)$\n",
+            "u ALL = (root) /r[z-a]28726573746172747c737461747573292028617c6229,/b\n",
+        ),
+        (
+            "u ALL = NOPASSWD: /b/x*  \t^-u [^a-z@.-]+$, /c: web = ^/b/\\.?[0-9_]$ # d",
+            "u ALL = NOPASSWD: /r[z-a]2d75205b5e612d7a402e2d5d2b,/b/x*, /c: web = /r[z-a]2f622f5c2e3f5b302d395f5d,/b/ # d",
+        ),
+        (
+            "Cmnd_Alias C = /a, ^/b$, !/c",
+            "Cmnd_Alias C = /a, /r[z-a]2f62,/, !/c",
+        ),
+        (
+            "u ALL = CHROOT=/x TIMEOUT=5 /b ^a$",
+            "u ALL = /c[z-a]/x,          /r[z-a]61,/b",
+        ),
+        (
+            "u ALL = ^/b/(c|d-[^e]*)$",
+            "u ALL = /r[z-a]2f622f28637c642d5b5e655d2a29,ALL",
+        ),
+        (
+            "u ALL = ^/b-_9/(c|\\.d[.-])+$",
+            "u ALL = /r[z-a]2f622d5f392f28637c5c2e645b2e2d5d292b,/b-_9/",
+        ),
+        ("u ALL = ^/b|/c$", "u ALL = /r[z-a]2f627c2f63,ALL"),
+        ("u ALL = ^/b/c.$", "u ALL = /r[z-a]2f622f632e,ALL"),
+        ("u ALL = ^/b.d/c$", "u ALL = /r[z-a]2f622e642f63,ALL"),
+        ("u ALL = ^/*$", "u ALL = /r[z-a]2f2a,ALL"),
+        ("u ALL = ^b/c$", "u ALL = /r[z-a]622f63,ALL"),
+    ];
+    assert!(rt; are_masked(rt.alloc(), &rows)?);
+    let texts = [
+        "u ALL = !/b ^a$",
+        "u ALL = ! ^/b$",
+        "u ALL = sudoedit ^/a$",
+        "u ALL = ^/b$ -l",
+        "u ALL = /b/ ^a$",
+        "u ALL = /b ^a$b$",
+        "u ALL = /b ^a\\$",
+        "u ALL = /b ^a(b$",
+        "u ALL = /b ^a)$",
+        "u ALL = /b ^(a|)$",
+        "u ALL = /b ^[a$",
+        "u ALL = /b ^[z-a]$",
+        "u ALL = /b ^[a-z-9]$",
+        "u ALL = /b ^a+*$",
+        "u ALL = /b ^*a$",
+        "u ALL = /b ^a{2}$",
+        "u ALL = /b ^$",
+        "Defaults!^/b$ lecture",
+    ];
+    assert!(rt; are_kept(rt.alloc(), &texts)?);
+    Ok(())
+}
+
+#[test]
 fn a_netgroup_becomes_its_members(rt: HostRuntime) -> Result<(), Fail> {
     let rows = [
         ("+ops ALL = /b\n", "alice,\"DOMAIN\",bob\\ b ALL = /b\n"),

@@ -5,7 +5,7 @@ ghost use Rattle.review_texts.specs.Words as spec;
 
 use crate::bytes::peek;
 
-// Whether one of the words begins with a byte and the first of those that follow it, or the byte is a plus sign.
+// Whether one of the words begins with a byte and the first of those that follow it, or the byte is a plus sign or a caret.
 fn begin_word(first: u8, rest: &[u8]) -> bool
     ensures { result ≡ beginnings.begin_word first (slice_index rest.now 0) }
 {
@@ -17,12 +17,19 @@ fn begin_word(first: u8, rest: &[u8]) -> bool
         b'N' => peek(rest, 0) == b'O',
         b's' => peek(rest, 0) == b'h',
         b'D' => peek(rest, 0) == b'e',
-        b'+' => true,
+        b'+' | b'^' => true,
         _ => false,
     }
 }
 
-// Whether one of the words begins a text, or a plus sign.
+// Whether a byte is a plus sign or a caret.
+fn is_plus_or_caret(byte: u8) -> bool
+    ensures { result ≡ spec.is_plus_or_caret byte }
+{
+    byte == b'+' || byte == b'^'
+}
+
+// Whether one of the words begins a text, or a plus sign or a caret.
 fn begins_word(text: &[u8]) -> bool
     ensures { result ≡ spec.begins_word text.now }
 {
@@ -39,7 +46,7 @@ fn begins_word(text: &[u8]) -> bool
         || text.starts_with(b"sha384:")
         || text.starts_with(b"sha512:")
         || text.starts_with(b"Defaults\\")
-        || peek(text, 0) == b'+'
+        || is_plus_or_caret(peek(text, 0))
 }
 
 // Whether one of the words begins a text, of which these are the first byte and what follows.
