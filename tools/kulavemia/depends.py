@@ -1,12 +1,18 @@
-"""What an answer depends on besides the request: kinds that the program's tables name, in a column `depends`.
+"""What an answer depends on that is not judged: kinds that the program's tables name, in a column `depends`.
 
-Whether they are met is not judged. So an answer that depends is what it may be at most, and it is not sure.
+So an answer that depends is what it may be at most, and it is not sure.
 """
 
 from collections.abc import Iterable, Sequence
 
 _OTHER = "other"
-_KINDS = {"digest": "a digest", "time": "the time", "chroot": "another root folder", _OTHER: "something unknown to these tools"}
+_KINDS = {
+    "digest": "a digest",
+    "time": "the time",
+    "chroot": "another root folder",
+    "regex": "a regular expression",
+    _OTHER: "something unknown to these tools",
+}
 
 
 def kinds_of(depends: str) -> tuple[str, ...]:

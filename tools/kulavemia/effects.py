@@ -41,6 +41,7 @@ _NOTES = {
     "digest": f"For sudo the digest of the command's file decides too. {_SHOWN}",
     "time": f"For sudo the time decides too. {_SHOWN}",
     "chroot": f"For sudo the command is the one below another root folder, and runs there. {_SHOWN}",
+    "regex": f"For sudo a regular expression decides too, which the command or its arguments have to fit. {_SHOWN}",
 }
 _CLASSES = {
     "return": Effect(WHO, _LINE),

@@ -314,7 +314,7 @@ class Page:
         return [caution for caution in self.cautions if caution.effect.answers != NOTED]
 
     def noted(self) -> tuple[str, ...]:
-        """Returns what commands of the policy depend on besides a request."""
+        """Returns what commands of the policy depend on that is not judged."""
         return all_of(subject_of(caution.text) for caution in self.cautions if caution.effect.answers == NOTED)
 
     def noted_alike(self) -> list[list[Caution]]:

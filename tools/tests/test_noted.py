@@ -1,4 +1,5 @@
-"""Cells of policies with digests, times and roots, beside those of the same policies with each of these met or not met.
+"""Cells of policies with digests, times, roots and regular expressions, beside those of the same policies with each of these met
+or not met.
 
 The page never shows less than one of these gives, and where it is sure each of them gives the same. The variable POLICIES
 says how many policies there are.
@@ -27,7 +28,9 @@ LISTS = ("ann", "bob", "cid", "dora", "%adm", "ALL")
 RUNAS = ("", "", "(ann) ", "(bob) ", "(ALL) ", "(ALL, !root) ", "(: adm) ", "(cid : adm) ")
 TAGS = ("", "", "NOPASSWD: ", "PASSWD: ")
 COMMANDS = ("ALL", "ALL", "ALL", "/opt/a", "!/opt/a", "!ALL")
-NOTES = ("", "", "NOTAFTER=2027010100 ", "CHROOT=/x ", "sha224:0GomF8mNN3wlDt1HD9XldjJ3SNgpFdbjO1+NsQ== ")
+NOTES = ("", "", "", "NOTAFTER=2027010100 ", "CHROOT=/x ", "sha224:0GomF8mNN3wlDt1HD9XldjJ3SNgpFdbjO1+NsQ== ", "^")
+# What is written for a command that has to fit an expression.
+EXPRESSIONS = {"ALL": "^.*$", "/opt/a": "/opt/a ^-[a-z]+$"}
 
 
 class Rule(NamedTuple):
@@ -38,8 +41,10 @@ class Rule(NamedTuple):
     end: str
 
     def noted(self) -> str:
-        """Returns the line with its note: an option stands before the tags, and a digest before the command."""
+        """Returns the line with its note: an option is before the tags, a digest before the command, an expression for it."""
         tag, _, command = self.end.rpartition(": ")
+        if self.note == "^":
+            return f"{self.start}{tag}{': ' * bool(tag)}{EXPRESSIONS[command]}\n"
         digest = self.note.startswith("sha")
         return f"{self.start}{tag}: {self.note}{command}\n" if digest and tag else f"{self.start}{self.note}{self.end}\n"
 
@@ -51,8 +56,8 @@ def drawn(seed: int) -> list[Rule]:
     for _ in range(draw.randint(2, 7)):
         has_room = sum(bool(rule.note) for rule in rules) < MOST_NOTES
         start = f"{draw.choice(LISTS)} ALL = {draw.choice(RUNAS)}"
-        note = draw.choice(NOTES) if has_room else ""
-        rules.append(Rule(start, note, f"{draw.choice(TAGS)}{draw.choice(COMMANDS)}"))
+        note, tag, command = draw.choice(NOTES) if has_room else "", draw.choice(TAGS), draw.choice(COMMANDS)
+        rules.append(Rule(start, note if note != "^" or command in EXPRESSIONS else "", f"{tag}{command}"))
     return rules
 
 
@@ -101,7 +106,8 @@ class Noted(Drawn):
                     with self.subTest(seed=seed, user=user, policy=policy):
                         self.check(answer, given)
             seen.update(answer.depends for answer in shown if answer.level not in (NONE, ROOT))
-        self.assertGreater(min(seen[kinds] for kinds in ((), ("digest",), ("time",), ("chroot",), ("digest", "time"))), 0, seen)
+        wanted = ((), ("digest",), ("time",), ("chroot",), ("regex",), ("digest", "time"))
+        self.assertGreater(min(seen[kinds] for kinds in wanted), 0, seen)
 
 
 if __name__ == "__main__":

@@ -1,4 +1,5 @@
-"""Comparisons of policies with digests, times and roots, beside versions of both policies with each of these met or not met.
+"""Comparisons of policies with digests, times, roots and expressions, beside versions of both policies with each of them met or
+not.
 
 What a row says of a command is so in each version, and in a cell without a row no version answers otherwise. The variable
 POLICIES says how many policies there are, and FIRST the number of the first one.
@@ -30,7 +31,7 @@ LISTS = ("ann", "bob", "ann, bob", "ALL")
 RUNAS = ("", "", "(bob)", "(ALL)")
 TAGS = ("", "", "NOPASSWD", "PASSWD", "NOEXEC")
 COMMANDS = ("ALL", "/opt/a", "/opt/a", "!/opt/a", "/opt/b", "/opt/*", "!/opt/b")
-# Those of a command, by their kinds: an option holds for the later commands too, and a digest for its own alone.
+# Those of a command, by their kinds: an option holds for the later commands too, a digest and an expression for its own alone.
 NOTES: Mapping[str, Sequence[str]] = {
     "time": ("NOTAFTER=2027010100", "NOTAFTER=2028010100"),
     "chroot": ("CHROOT=/x", "CHROOT=/y"),
@@ -38,7 +39,9 @@ NOTES: Mapping[str, Sequence[str]] = {
         "sha224:0GomF8mNN3wlDt1HD9XldjJ3SNgpFdbjO1+NsQ==",
         "sha224:d14a028c2a3a2bc9476102bb288234c415a2b01f828ea62ac5b3e42f",
     ),
+    "regex": ("^/opt/.*$", "^/(opt|srv)/a$"),
 }
+OWN = ("digest", "regex")
 PROBES = ("/opt/a", "/opt/b", "/opt/c", "/bin/sh")
 
 
@@ -50,11 +53,18 @@ class Command(NamedTuple):
     notes: Mapping[str, str]
     word: str
 
+    def own(self) -> Mapping[str, str]:
+        """Returns the notes that hold for this command alone; behind a sign no expression is read."""
+        return {kind: note for kind, note in self.notes.items() if kind in OWN and (kind != "regex" or self.word[0] != "!")}
+
     def __str__(self) -> str:
         options = [self.notes[kind] for kind in ("time", "chroot") if kind in self.notes]
         tag = [f"{self.tag}:"] if self.tag else []
-        digest = [self.notes["digest"]] if "digest" in self.notes else []
-        return " ".join([*([self.runas] if self.runas else []), *options, *tag, *digest, self.word])
+        own = self.own()
+        digest = [own["digest"]] if "digest" in own else []
+        path = [] if "regex" in own and self.word == "ALL" else [self.word]
+        expression = [own["regex"]] if "regex" in own else []
+        return " ".join([*([self.runas] if self.runas else []), *options, *tag, *digest, *path, *expression])
 
 
 class Rule(NamedTuple):
@@ -73,8 +83,8 @@ class Rule(NamedTuple):
             runas = command.runas or runas
             if command.tag:
                 tags = {tag for tag in tags if tag.removeprefix("NO") != command.tag.removeprefix("NO")} | {command.tag}
-            options |= {kind: note for kind, note in command.notes.items() if kind != "digest"}
-            notes = [*options.values(), *(note for kind, note in command.notes.items() if kind == "digest")]
+            options |= {kind: note for kind, note in command.notes.items() if kind not in OWN}
+            notes = [*options.values(), *command.own().values()]
             if all(met[note] for note in notes):
                 left.append(f"{runas} {''.join(f'{tag}: ' for tag in sorted(tags))}{command.word}")
         return f"{self.users} ALL = {', '.join(left)}\n" if left else "#\n"
@@ -247,7 +257,7 @@ class Noted(Drawn):
                 self.check(old, new, rows)
                 self.assertEqual([row for row in rows if row.depends and row.answer != "may"], [])
                 seen.update(f"{row.answer} {row.depends}" for row in rows for _ in row.cells)
-        self.assertLessEqual({"gained ", "lost ", "other ", "may digest", "may time", "may chroot"}, set(seen), seen)
+        self.assertLessEqual({"gained ", "lost ", "other ", "may digest", "may time", "may chroot", "may regex"}, set(seen), seen)
 
     def test_a_split_rule_is_the_same(self) -> None:
         """A rule of two users, and one of each with the same notes: nothing changes."""
