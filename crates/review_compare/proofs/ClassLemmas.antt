@@ -23,20 +23,19 @@ use Rattle.review_compare.specs.declared.row.Row.{Row}
 use Rattle.review_compare.specs.declared.spot.Listed.{Listed}
 use Rattle.review_compare.specs.declared.spot.Spot.{Spot}
 use Rattle.review_compare.specs.Cells.{Decider, deciders}
-use Rattle.review_compare.specs.Differences.{FoundIf, IsDone, IsFound, known_at, question_at}
-use Rattle.review_compare.specs.Witnesses.{IsCompared}
+use Rattle.review_compare.specs.Differences.{IsDone, known_at, question_at}
 use Rattle.review_compare.specs.Body.Chosen.{AreListed, deciders_at, listed_at, runas_at, standing_at}
 use Rattle.review_compare.specs.Body.ChangedRows.{AreChanged}
 use Rattle.review_compare.specs.Body.AskClasses.{AreAsked, changed_by}
-use Rattle.review_compare.specs.Body.Near.{each_one, near_deciders}
+use Rattle.review_compare.specs.Body.Near.{IsFoundNear, each_one, near_deciders, near_of}
 use Rattle.review_compare.specs.Body.Classes.{AddsCells, AddsHosts, AreRightIn, AreSameBlocks, HaveHost, IsClass, IsClassed}
-use Rattle.review_compare.specs.Body.Classes.{IsOnClasses, IsWith}
+use Rattle.review_compare.specs.Body.Classes.{IsFoundAt, IsOnClasses, IsWith}
 use Rattle.review_compare.specs.Body.Merged.{IsOnAmong, is_among}
 use Rattle.review_compare.specs.Body.Progress.{AreListedIn, IsBefore, IsOnAsked, IsOnEach, IsSpot, Progress, cell_at}
 use Rattle.review_compare.specs.Body.Progress.{question_of}
 use Rattle.review_compare.proofs.ChosenLemmas.{stands-at}
 use Rattle.review_compare.proofs.DifferenceLemmas.{spot-question, went-on}
-use Rattle.review_compare.proofs.NearLemmas.{compared-moved, near_new, near_old, pair-all}
+use Rattle.review_compare.proofs.NearLemmas.{found-moved, near_new, near_old, pair-all, pair-near}
 use Rattle.review_compare.proofs.UnchangedLemmas.{less-or, other-host-runas}
 
 -- ---- The near blocks that stand on two hosts
@@ -96,17 +95,20 @@ HaveSameRows p s k = (a : Ask) →
 
 -- the outcome of the comparison at one spot is right at the other
 moved-there : (p : Pair) (s k : Spot) (a : Ask) → HaveSameRows p s k → (f : Compared) →
-    IsCompared (deciders p.old.checked.now (question_of p k a)) (deciders p.new.checked.now (question_of p k a)) f →
-    IsCompared (deciders p.old.checked.now (question_of p s a)) (deciders p.new.checked.now (question_of p s a)) f
+    IsFoundNear (changed_by p) (deciders p.old.checked.now (question_of p k a)) (deciders p.new.checked.now (question_of p k a)) f →
+    IsFoundNear (changed_by p) (deciders p.old.checked.now (question_of p s a)) (deciders p.new.checked.now (question_of p s a)) f
 moved-there p s k a rows f is =
     let q = question_of p k a in
     let r = question_of p s a in
     let ds = deciders p.old.checked.now q in
     let es = deciders p.new.checked.now q in
-    compared-moved ds es (deciders p.old.checked.now r) (deciders p.new.checked.now r) (changed_by p) (near_old p r) (near_new p r)
+    let here = pair-near p q in
+    let there = pair-near p r in
+    found-moved ds es (deciders p.old.checked.now r) (deciders p.new.checked.now r) (changed_by p) (near_old p r) (near_new p r)
     (subst (λ (ns : List Decider). AreChanged ds es (changed_by p) ns (near_new p r)) (rows a).0
     (subst (λ (ms : List Decider). AreChanged ds es (changed_by p) (near_old p q) ms) (rows a).1 (pair-all p q)))
-    (pair-all p r) f is
+    (pair-all p r) (here.0 ∙ ap (near_of (changed_by p)) (rows a).0 ∙ sym there.0)
+    (here.1 ∙ ap (near_of (changed_by p)) (rows a).1 ∙ sym there.1) f is
 
 -- two hosts on which the same blocks list the user have the same near rows
 same-rows : (p : Pair) (s k : Spot) (l j : Listed) → s.person.now ≡ k.person.now → AreListedIn p s l → AreListedIn p k j →
@@ -189,14 +191,14 @@ right-there p s l ks k at listed same class = (
 )
   where
     there : (c : Cell) (f : Compared) → c.user ≡ s.user → c.host ≡ s.host →
-        IsFound p.old.checked.now p.new.checked.now p.directory.now p.groups.now (at-host k.spot.host c) f →
-        IsFound p.old.checked.now p.new.checked.now p.directory.now p.groups.now c f
+        IsFoundAt p (question_at p.directory.now p.groups.now (at-host k.spot.host c)) f →
+        IsFoundAt p (question_at p.directory.now p.groups.now c) f
     there c f own on is =
-        let first : IsCompared (deciders p.old.checked.now (question_of p k.spot c.ask))
+        let first : IsFoundNear (changed_by p) (deciders p.old.checked.now (question_of p k.spot c.ask))
         (deciders p.new.checked.now (question_of p k.spot c.ask)) f =
-        subst (λ (o : Option Question). FoundIf p.old.checked.now p.new.checked.now o f)
+        subst (λ (o : Option Question). IsFoundAt p o f)
         (asked-here p k.spot (at-host k.spot.host c) class.spot (own ∙ sym class.own) refl) is in
-        subst (λ (o : Option Question). FoundIf p.old.checked.now p.new.checked.now o f) (sym (asked-here p s c at own on))
+        subst (λ (o : Option Question). IsFoundAt p o f) (sym (asked-here p s c at own on))
         (moved-there p s k.spot c.ask (same-rows p s k.spot l k.listed (sym class.person) listed class.listed same) f first)
 
 pub first-class : (p : Pair) (s : Spot) (l : Listed) (ks : List AskClass) (founds : Vec Compared Global) (hosts : Vec ℕ Global) →
@@ -226,8 +228,8 @@ class-with p user u ks k new more class right is = record {
   right = (
     ap (λ (fs : Vec Compared Global). length fs.items) is.founds ∙ class.right.0,
     λ n d e less c on.
-        subst (λ (fs : Vec Compared Global). IsFound p.old.checked.now p.new.checked.now p.directory.now p.groups.now c
-        (get_or fs.items n e)) (sym is.founds)
+        subst (λ (fs : Vec Compared Global). IsFoundAt p (question_at p.directory.now p.groups.now c) (get_or fs.items n e))
+        (sym is.founds)
         (go n d e less c on.0 on.2 (or_cases (is_among k.hosts.items c.host) (is_among more c.host)
         (sym (among-append k.hosts.items more c.host) ∙ ap (λ hs. is_among hs c.host) (sym is.hosts_are) ∙ on.1))),
   );
@@ -235,7 +237,7 @@ class-with p user u ks k new more class right is = record {
   where
     go : (n : ℕ) (d : AskClass) (e : Compared) → n < length ks → (c : Cell) → c.user ≡ user → AreAsked (get_or ks n d).asked.items c.ask →
         (is_among k.hosts.items c.host ≡ true) ⊎ (is_among more c.host ≡ true) →
-        IsFound p.old.checked.now p.new.checked.now p.directory.now p.groups.now c (get_or k.founds.items n e)
+        IsFoundAt p (question_at p.directory.now p.groups.now c) (get_or k.founds.items n e)
     go n d e less c own asked (inl on) = class.right.1 n d e less c (own, on, asked)
     go n d e less c own asked (inr on) = right.1 n d e less c (own, on, asked)
 

@@ -66,7 +66,7 @@ items_same (i ∷ is) (j ∷ js) b e =
     let both = and_parts (same_item i j) (same_items is js) e in
     ap (λ v. v || list_any (item_holds b) is) (item_same i j b both.0) ∙ ap (λ v. item_holds b j || v) (items_same is js b both.1)
 
-set_sound : (s : Slash) (x y : ByteSet) (b : ℕ) → set_covers s x y ≡ true → set_holds s y b ≡ true → set_holds s x b ≡ true
+pub set_sound : (s : Slash) (x y : ByteSet) (b : ℕ) → set_covers s x y ≡ true → set_holds s y b ≡ true → set_holds s x b ≡ true
 set_sound s x (Only c) b e h = ap (set_holds s x) (eqb-true b c h) ∙ e
 set_sound s AnyByte AnyByte b e h = h
 set_sound s AnyByte (Bracket true js) b e h = (and_parts (is_free s b) (not (list_any (item_holds b) js)) h).0
@@ -138,7 +138,7 @@ star_sound s p rest each (One y ∷ q) t e h =
         let front = one_parts s y q b t h in
         star_more s p b t (free_sound s y b both.0 front.0) (onward both.1 t front.1)
 
-parts_sound : (s : Slash) (p q : List Part) (t : List ℕ) → parts_cover s p q ≡ true → fits q t s ≡ true → fits p t s ≡ true
+pub parts_sound : (s : Slash) (p q : List Part) (t : List ℕ) → parts_cover s p q ≡ true → fits q t s ≡ true → fits p t s ≡ true
 unfolding fits
 parts_sound s [] [] t e h = h
 parts_sound s [] (y ∷ q) t e h = cc
@@ -246,13 +246,13 @@ empty_is : (x : List ℕ) → is_empty x ≡ true → x ≡ []
 empty_is [] e = refl
 empty_is (b ∷ x) e = cc
 
-slash_same : (s r : Slash) → same_slash s r ≡ true → s ≡ r
+pub slash_same : (s r : Slash) → same_slash s r ≡ true → s ≡ r
 slash_same Any Any e = refl
 slash_same Not Not e = refl
 slash_same Any Not e = cc
 slash_same Not Any e = cc
 
-arguments_sound :
+pub arguments_sound :
     (s r : Slash) (a b : Option (List Ch)) (x : List ℕ) → arguments_cover s r a b ≡ true → arguments_fit r b x ≡ true →
     arguments_fit s a x ≡ true
 arguments_sound s r None b x e h = refl
@@ -270,7 +270,7 @@ arguments_sound s r (Some cs) (Some ds) x e h = go (no_arguments ds) (no_argumen
         ap (λ m. cond m (is_empty x) (fits (parts cs) x s)) is
         ∙ parts_sound s (parts cs) (parts ds) x both.1 (ap (fits (parts ds) x) (slash_same s r both.0) ∙ h)
 
-arguments_apart :
+pub arguments_apart :
     (s r : Slash) (a b : Option (List Ch)) (x : List ℕ) → arguments_disjoint s r a b ≡ true → arguments_fit s a x ≡ true →
     arguments_fit r b x ≡ false
 arguments_apart s r None b x e h = cc

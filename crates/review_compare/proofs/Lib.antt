@@ -2,6 +2,7 @@ pub mod AgreementLemmas
 pub mod CoveringLemmas
 pub mod ComparedLemmas
 pub mod SimplyLemmas
+pub mod ApartLemmas
 pub mod CellLemmas
 pub mod RulingLemmas
 pub mod WitnessLemmas
@@ -16,6 +17,7 @@ pub mod TextLemmas
 pub mod UnchangedLemmas
 pub mod ClassLemmas
 pub mod ChangedLemmas
+pub mod UnsettledLemmas
 pub mod NearLemmas
 pub mod FittingLemmas
 pub mod AskLemmas

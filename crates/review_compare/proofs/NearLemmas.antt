@@ -27,14 +27,17 @@ use Rattle.review_compare.specs.Cells.{Decider, answer_between, answered_if_any,
 use Rattle.review_compare.specs.Cells.{verdict_among}
 use Rattle.review_compare.specs.Compared.{said, same_answer, same_choice, same_choices}
 use Rattle.review_compare.specs.Lines.{Choice, Lined, all_met, fits_where}
+use Rattle.review_compare.specs.Unsettled.{IsUnsettled}
 use Rattle.review_compare.specs.Witnesses.{IsCompared, IsWitness}
 use Rattle.review_compare.specs.Body.ChangedRows.{AreChanged, is_fitted, is_near}
 use Rattle.review_compare.specs.Body.Chosen.{chosen, deciders_at, deciders_if, deciders_of, standing_if}
 use Rattle.review_compare.specs.Body.AskClasses.{changed_by, kept_new, kept_old}
-use Rattle.review_compare.specs.Body.Near.{AreParts, HaveParts, changed_rows, has_near, if_near, middle, near_at, near_deciders, near_of}
+use Rattle.review_compare.specs.Body.Near.{AreParts, HaveParts, IsFoundNear, changed_rows, has_near, if_near, middle, near_at}
+use Rattle.review_compare.specs.Body.Near.{near_deciders, near_of}
 use Rattle.review_compare.specs.Body.Unchanged.{AreCommon}
 use Rattle.review_compare.proofs.ChangedLemmas.{fits-alone, near-decide, near-fits, or-parts, unfitted}
 use Rattle.review_compare.proofs.ChosenLemmas.{all-stand, blocks-decide}
+use Rattle.review_compare.proofs.UnsettledLemmas.{unsettled-all}
 use Rattle.review_compare.proofs.UnchangedLemmas.{joined, mapped-flat, pairwise}
 
 -- ---- Rows of which one is near
@@ -132,6 +135,36 @@ filter-flat changed f [] = refl
 filter-flat changed f (i ∷ is) =
     filter-append (is_near changed) (f i) (flat_map f is)
     ∙ ap (λ (ds : List Decider). near_of changed (f i) ++ ds) (filter-flat changed f is)
+
+-- rows that are left out are not near
+near-if : (changed ds : List Decider) → near_of changed (if_near changed ds) ≡ near_of changed ds
+near-if changed ds = by (has_near changed ds) refl
+  where
+    none : (es : List Decider) → has_near changed es ≡ false → [] ≡ near_of changed es
+    none [] far = refl
+    none (e ∷ es) far =
+        let both = or-parts (is_near changed e) (has_near changed es) far in
+        none es both.1 ∙ ap (λ b. cond b (e ∷ near_of changed es) (near_of changed es)) (sym both.0)
+
+    by : (b : Bool) → has_near changed ds ≡ b → near_of changed (cond b ds []) ≡ near_of changed ds
+    by true is = refl
+    by false is = none ds is
+
+pub near-twice : (changed ds : List Decider) → near_of changed (near_of changed ds) ≡ near_of changed ds
+near-twice changed [] = refl
+near-twice changed (d ∷ ds) = by (near-twice changed ds) (is_near changed d) refl
+  where
+    by : near_of changed (near_of changed ds) ≡ near_of changed ds → (b : Bool) → is_near changed d ≡ b →
+        near_of changed (cond b (d ∷ near_of changed ds) (near_of changed ds)) ≡ cond b (d ∷ near_of changed ds) (near_of changed ds)
+    by rest true is =
+        ap (λ b. cond b (d ∷ near_of changed (near_of changed ds)) (near_of changed (near_of changed ds))) is
+        ∙ ap (λ (es : List Decider). d ∷ es) rest
+    by rest false is = rest
+
+flat-same : (f g : ℕ → List Decider) → ((i : ℕ) → f i ≡ g i) → (is : List ℕ) → flat_map f is ≡ flat_map g is
+flat-same f g same [] = refl
+flat-same f g same (i ∷ is) =
+    ap (λ (ds : List Decider). ds ++ flat_map f is) (same i) ∙ ap (λ (ds : List Decider). g i ++ ds) (flat-same f g same is)
 
 -- what the blocks with their near rows alone answer
 pub part-at : (changed : List Decider) (bs parts : List Block) → AreParts changed bs parts → (i : ℕ) →
@@ -384,6 +417,23 @@ module _ (p r : Policy) (bs cs : List Block) (k : Common) (common : AreCommon p 
   all-kept-its =
       ap (near_of rows_changed) near-its ∙ filter-flat rows_changed (λ i. if_near rows_changed (its i)) (range_with_len 0 (length cs))
 
+  -- the near rows of the near blocks are those of all that stand
+  all-near-own : AreBlocks p bs →
+      near_of rows_changed (deciders p q) ≡ near_of rows_changed (near_deciders p bs (near_at rows_changed bs) q)
+  all-near-own are =
+      ap (near_of rows_changed) (sym (all-own are))
+      ∙ filter-flat rows_changed own (range_with_len 0 (length bs))
+      ∙ flat-same (λ i. near_of rows_changed (own i)) kept_own (λ i. sym (near-if rows_changed (own i))) (range_with_len 0 (length bs))
+      ∙ sym all-kept-own
+
+  all-near-its : AreBlocks r cs →
+      near_of rows_changed (deciders r q) ≡ near_of rows_changed (near_deciders r cs (near_at rows_changed cs) q)
+  all-near-its also =
+      ap (near_of rows_changed) (sym (all-its also))
+      ∙ filter-flat rows_changed its (range_with_len 0 (length cs))
+      ∙ flat-same (λ i. near_of rows_changed (its i)) kept_its (λ i. sym (near-if rows_changed (its i))) (range_with_len 0 (length cs))
+      ∙ sym all-kept-its
+
   kept-outside : AlikeOutside kept_own kept_its (length bs) (length cs) k
   kept-outside =
       let all = near-outside in (
@@ -450,6 +500,18 @@ pair-kept-all p q =
       new = λ met c x e. near-decide (changed_by p) (near_new p q) met c x e ∙ all.new met c x e;
     }
 
+-- the near rows of all that stand
+pub pair-near : (p : Pair) (q : Question) → (near_of (changed_by p) (deciders p.old.checked.now q) ≡ kept_old p q)
+    × (near_of (changed_by p) (deciders p.new.checked.now q) ≡ kept_new p q)
+pair-near p q =
+    let bs = p.old.blocks.items in
+    let cs = p.new.blocks.items in (
+      all-near-own p.old.checked.now p.new.checked.now bs cs p.common p.are_common q p.old.are_blocks
+          ∙ ap (λ (is : List ℕ). near_of (changed_by p) (near_deciders p.old.checked.now bs is q)) (sym p.are_near.old),
+      all-near-its p.old.checked.now p.new.checked.now bs cs p.common p.are_common q p.new.are_blocks
+          ∙ ap (λ (is : List ℕ). near_of (changed_by p) (near_deciders p.new.checked.now cs is q)) (sym p.are_near.new),
+    )
+
 -- ---- The outcome for some rows, and for others with the same near rows
 
 choice-self : (a : Option Bool) → same_choice a a ≡ true
@@ -491,9 +553,10 @@ witness-moved ds es fs gs changed near_ds near_es one other w is = by (is_fitted
         let bad : Some w.answer ≡ None = sym is.answer ∙ none in
         cc
 
-pub compared-moved : (ds es fs gs changed near_ds near_es : List Decider) → AreChanged ds es changed near_ds near_es →
-    AreChanged fs gs changed near_ds near_es → (f : Compared) → IsCompared ds es f → IsCompared fs gs f
-compared-moved ds es fs gs changed near_ds near_es one other compared.Same same = λ met c x. by met c x (is_fitted changed c x) refl
+pub found-moved : (ds es fs gs changed near_ds near_es : List Decider) → AreChanged ds es changed near_ds near_es →
+    AreChanged fs gs changed near_ds near_es → near_of changed ds ≡ near_of changed fs → near_of changed es ≡ near_of changed gs →
+    (f : Compared) → IsFoundNear changed ds es f → IsFoundNear changed fs gs f
+found-moved ds es fs gs changed near_ds near_es one other old new compared.Same same = λ met c x. by met c x (is_fitted changed c x) refl
   where
     by : (met : Choice) (c x : List ℕ) → (b : Bool) → is_fitted changed c x ≡ b →
         said (verdict_among met fs c x) ≡ said (verdict_among met gs c x)
@@ -501,9 +564,26 @@ compared-moved ds es fs gs changed near_ds near_es one other compared.Same same 
     by met c x true e =
         sym (ap said (other.old met c x e)) ∙ ap said (one.old met c x e) ∙ same met c x ∙ sym (ap said (one.new met c x e))
         ∙ ap said (other.new met c x e)
-compared-moved ds es fs gs changed near_ds near_es one other (compared.Differs ws) is = (
+found-moved ds es fs gs changed near_ds near_es one other old new (compared.Differs ws) is = (
   is.0,
   All-weaker (IsWitness ds es) (IsWitness fs gs)
       (λ w there. witness-moved ds es fs gs changed near_ds near_es one other w there) ws is.1,
 )
-compared-moved ds es fs gs changed near_ds near_es one other (compared.May old new) is = tt
+found-moved ds es fs gs changed near_ds near_es one other old new (compared.May r s) is =
+    subst (λ (ks : List Decider). IsUnsettled ks (near_of changed gs) r s) old
+    (subst (λ (ks : List Decider). IsUnsettled (near_of changed ds) ks r s) new is)
+
+-- what is found of near rows alone
+pub found-kept : (changed ds es : List Decider) (f : Compared) → IsCompared (near_of changed ds) (near_of changed es) f →
+    IsFoundNear changed (near_of changed ds) (near_of changed es) f
+found-kept changed ds es compared.Same is = is
+found-kept changed ds es (compared.Differs ws) is = is
+found-kept changed ds es (compared.May r s) is =
+    subst (λ (ks : List Decider). IsUnsettled ks (near_of changed (near_of changed es)) r s) (sym (near-twice changed ds))
+    (subst (λ (ks : List Decider). IsUnsettled (near_of changed ds) ks r s) (sym (near-twice changed es)) is)
+
+-- what is found of near rows is so of all
+pub found-all : (changed ds es : List Decider) (f : Compared) → IsFoundNear changed ds es f → IsCompared ds es f
+found-all changed ds es compared.Same is = is
+found-all changed ds es (compared.Differs ws) is = is
+found-all changed ds es (compared.May r s) is = unsettled-all changed ds es r s is

@@ -26,7 +26,7 @@ or-false : (b : Bool) → (b || false) ≡ b
 or-false true = refl
 or-false false = refl
 
-covered : (ds es : List Decider) (a : Lined) →
+pub covered : (ds es : List Decider) (a : Lined) →
     list_any (λ k. covers_where k.atom a) (map ruling_by ds ++ map ruling_by es) ≡ is_covered_by_either ds es a
 covered ds es a =
     list_any-append (λ k. covers_where k.atom a) (map ruling_by ds) (map ruling_by es)

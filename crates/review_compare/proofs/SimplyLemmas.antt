@@ -132,7 +132,7 @@ disjoint-parts s r p q e =
 
 -- ---- Arguments
 
-given-cover : (s r : Slash) (a b : Option (List Ch)) → given_cover s r a b ≡ true → arguments_cover s r a b ≡ true
+pub given-cover : (s r : Slash) (a b : Option (List Ch)) → given_cover s r a b ≡ true → arguments_cover s r a b ≡ true
 given-cover s r None b e = refl
 given-cover s r (Some cs) None e = cc
 given-cover s r (Some cs) (Some ds) e = go (no_arguments ds) (no_arguments cs) e
@@ -145,7 +145,7 @@ given-cover s r (Some cs) (Some ds) e = go (no_arguments ds) (no_arguments cs) e
         let both = and_parts (same_slash s r) (chars_cover s cs ds) e in
         and_from (same_slash s r) (parts_cover s (parts cs) (parts ds)) both.0 (cover-parts s cs ds both.1)
 
-given-disjoint : (s r : Slash) (a b : Option (List Ch)) → given_disjoint s r a b ≡ true → arguments_disjoint s r a b ≡ true
+pub given-disjoint : (s r : Slash) (a b : Option (List Ch)) → given_disjoint s r a b ≡ true → arguments_disjoint s r a b ≡ true
 given-disjoint s r None b e = cc
 given-disjoint s r (Some cs) None e = cc
 given-disjoint s r (Some cs) (Some ds) e = go (no_arguments ds) (no_arguments cs) e

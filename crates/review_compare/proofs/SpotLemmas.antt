@@ -24,13 +24,15 @@ use Rattle.review_compare.specs.Witnesses.{IsCompared}
 use Rattle.review_compare.specs.Body.AskClasses.{AreAsked, HaveAsk, IsAskClass, IsAskedWith, changed_by, kept_new, kept_old, on_new}
 use Rattle.review_compare.specs.Body.AskClasses.{on_old}
 use Rattle.review_compare.specs.Body.Comparisons.{IsCopy}
-use Rattle.review_compare.specs.Body.Classes.{AreRightIn, IsRightIn}
+use Rattle.review_compare.specs.Body.Classes.{AreRightIn, IsFoundAt, IsRightIn}
+use Rattle.review_compare.specs.Body.Near.{IsFoundNear}
 use Rattle.review_compare.specs.Body.Merged.{Absorbs, AddsFound, AreMerged, AreOrdered, IsOnAmong, IsOrdered, IsRowOf, is_among}
 use Rattle.review_compare.specs.Body.Progress.{IsSpot, Progress, question_of}
 use Rattle.review_compare.proofs.AskLemmas.{asked-cases, asked-first, asked-last, classes-cases}
 use Rattle.review_compare.proofs.ClassLemmas.{asked-here, or-false, same-self, single}
 use Rattle.review_compare.proofs.DifferenceLemmas.{all-added, nothing-added, numbers-same, went-on}
-use Rattle.review_compare.proofs.NearLemmas.{compared-moved, pair-kept, pair-kept-all}
+use Rattle.review_compare.proofs.NearLemmas.{found-all, found-kept, found-moved, near-twice, near_new, near_old, pair-kept}
+use Rattle.review_compare.proofs.NearLemmas.{pair-kept-all, pair-near}
 use Rattle.review_compare.proofs.UnchangedLemmas.{less-or}
 
 -- ---- The cells of a row
@@ -142,14 +144,17 @@ adds-more old mid new user hosts ws k w f less is so_far one =
 -- the outcome for the blocks of a class is right for each of its asks
 class-compared : (p : Pair) (s : Spot) (k : AskClass) (f : Compared) → IsAskClass p s.person.now k →
     IsCompared (on_old p s.machine.now k.allowing) (on_new p s.machine.now k.allowing) f → (a : Ask) → AreAsked k.asked.items a →
-    IsCompared (deciders p.old.checked.now (question_of p s a)) (deciders p.new.checked.now (question_of p s a)) f
+    IsFoundNear (changed_by p) (deciders p.old.checked.now (question_of p s a)) (deciders p.new.checked.now (question_of p s a)) f
 class-compared p s k f class is a asked =
     let q = question_of p s a in
     let decide = class a asked in
-    compared-moved (kept_old p q) (kept_new p q) (deciders p.old.checked.now q) (deciders p.new.checked.now q) (changed_by p)
-    (kept_old p q) (kept_new p q) (pair-kept p q) (pair-kept-all p q) f
+    let near = pair-near p q in
+    let kept = found-kept (changed_by p) (near_old p q) (near_new p q) f
     (subst (λ (ds : List Decider). IsCompared ds (kept_new p q) f) (sym (decide.old s.machine.now))
-    (subst (λ (es : List Decider). IsCompared (on_old p s.machine.now k.allowing) es f) (sym (decide.new s.machine.now)) is))
+    (subst (λ (es : List Decider). IsCompared (on_old p s.machine.now k.allowing) es f) (sym (decide.new s.machine.now)) is)) in
+    found-moved (kept_old p q) (kept_new p q) (deciders p.old.checked.now q) (deciders p.new.checked.now q) (changed_by p)
+    (kept_old p q) (kept_new p q) (pair-kept p q) (pair-kept-all p q) (near-twice (changed_by p) (near_old p q) ∙ sym near.0)
+    (near-twice (changed_by p) (near_new p q) ∙ sym near.1) f kept
 
 -- and so it is in each of its cells at the spot
 pub class-right : (p : Pair) (s : Spot) (k : AskClass) (f : Compared) → IsSpot p s → IsAskClass p s.person.now k →
@@ -157,8 +162,7 @@ pub class-right : (p : Pair) (s : Spot) (k : AskClass) (f : Compared) → IsSpot
     IsRightIn p s.user (s.host ∷ []) (AreAsked k.asked.items) f
 class-right p s k f at class is c on =
     let here : c.host ≡ s.host = sym (eqb-true s.host c.host (sym (single s.host c.host) ∙ on.1)) in
-    subst (λ (o : Option Question). FoundIf p.old.checked.now p.new.checked.now o f) (sym (asked-here p s c at on.0 here))
-    (class-compared p s k f class is c.ask on.2)
+    subst (λ (o : Option Question). IsFoundAt p o f) (sym (asked-here p s c at on.0 here)) (class-compared p s k f class is c.ask on.2)
 
 founds-push : (p : Pair) (user : ℕ) (hosts : List ℕ) (ks : List AskClass) (fs : List Compared) (k : AskClass) (f : Compared) →
     AreRightIn p user hosts ks fs → IsRightIn p user hosts (AreAsked k.asked.items) f →
@@ -194,10 +198,13 @@ founds-more p user hosts ks fs n k f less is so_far one =
 pub founds-none : (p : Pair) (user : ℕ) (hosts : List ℕ) → AreRightIn p user hosts [] []
 founds-none p user hosts = (refl, λ n d e less. absurd (omega (arith, less)))
 
-copied-found : (p : Pair) (o : Option Question) (f g : Compared) → IsCopy f g → FoundIf p.old.checked.now p.new.checked.now o f →
+copied-found : (p : Pair) (o : Option Question) (f g : Compared) → IsCopy f g → IsFoundAt p o f →
     FoundIf p.old.checked.now p.new.checked.now o g
 copied-found p None f g copy is = tt
-copied-found p (Some q) f g copy is = copy (deciders p.old.checked.now q) (deciders p.new.checked.now q) is
+copied-found p (Some q) f g copy is =
+    let ds = deciders p.old.checked.now q in
+    let es = deciders p.new.checked.now q in
+    copy ds es (found-all (changed_by p) ds es f is)
 
 -- rows with what is found for a class
 pub class-found : (p : Pair) (user : ℕ) (hosts : List ℕ) (asked : Ask → Type 0) (rows new : List Row) (f : Compared) →
@@ -214,7 +221,7 @@ class-found p user hosts asked rows new f is adds = record {
     go right c g (inl e) = right c g e
     go right c g (inr on) = copied-found p (question_at p.directory.now p.groups.now c) f g on.1 (is c on.0)
 
-found-same : (p : Pair) (o : Option Question) → FoundIf p.old.checked.now p.new.checked.now o compared.Same →
+found-same : (p : Pair) (o : Option Question) → IsFoundAt p o compared.Same →
     SameIf p.old.checked.now p.new.checked.now o
 found-same p None is = tt
 found-same p (Some q) is = is
@@ -223,8 +230,7 @@ pub class-same : (p : Pair) (user : ℕ) (hosts : List ℕ) (asked : Ask → Typ
     IsRightIn p user hosts asked f → f ≡ compared.Same → Progress p rows rows (IsOnAmong user hosts asked)
 class-same p user hosts asked rows f is same = nothing-added p rows (IsOnAmong user hosts asked)
     (λ c on. found-same p (question_at p.directory.now p.groups.now c)
-    (subst (λ (g : Compared). FoundIf p.old.checked.now p.new.checked.now (question_at p.directory.now p.groups.now c) g) same
-    (is c on)))
+    (subst (λ (g : Compared). IsFoundAt p (question_at p.directory.now p.groups.now c) g) same (is c on)))
 
 -- one class more
 pub class-more : (p : Pair) (rows new : List Row) (user : ℕ) (hosts : List ℕ) (ks : List AskClass) (n : ℕ) (k : AskClass) →

@@ -6,6 +6,7 @@ pub mod Table
 pub mod Body
 pub mod Lines
 pub mod Cells
+pub mod Unsettled
 pub mod Names
 pub mod Witnesses
 pub mod Blocks

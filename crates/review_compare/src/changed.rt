@@ -21,6 +21,10 @@ pub(crate) struct Changed<'r, 'a> {
     pub(crate) new: Vec<Ruled<'a>>,
     ghost are_changed: { body.AreChanged (all_shown all_old.now) (all_shown all_new.now)
         (all_shown rows.items) (all_shown old.items) (all_shown new.items) },
+    ghost near_old: { all_shown old.items
+        ≡ filter (body.is_near (all_shown rows.items)) (all_shown all_old.now) },
+    ghost near_new: { all_shown new.items
+        ≡ filter (body.is_near (all_shown rows.items)) (all_shown all_new.now) },
 }
 
 // Returns how many rows at the front are the same.

@@ -1,13 +1,14 @@
 //! What two policies say to the commands of a cell: a user on a host who asks for a target and a group.
-ghost use Rattle.std.specs.Prelude.{◌≡◌, All, IfOk, List, map, OnOk, true};
+ghost use Rattle.std.specs.Prelude.{◌≡◌, ◌⊎◌, ◌<◌, IfOk, IfSome, length, map, option_map, true};
 ghost use Rattle.review_compare.specs.Body.Shown as body;
-ghost use Rattle.review_compare.specs.Cells.{Decider as TheDecider};
+ghost use Rattle.review_compare.specs.Unsettled as unsettled;
 ghost use Rattle.review_compare.specs.Witnesses as witnesses;
 
 use crate::alike::{are_same_atoms, is_same_atom};
 use crate::answer::is_same_answer;
 use crate::changed::Changed;
 use crate::ruling::{Overlap, Ruled, first_overlap, is_unnoted};
+use crate::text::atom_copied;
 use crate::trials::witnesses;
 use crate::witness::Witness;
 use std::alloc::{AllocError, Global};
@@ -22,8 +23,10 @@ pub enum Compared {
     Same,
     /// Different answers to these commands: at most one command for each kind of change.
     Differs(Seq<Witness>),
-    /// Not settled: a command that these two rows match may have different answers. If something is noted before a row near the
-    /// change that may match it too, then before one of these.
+    /// Not settled: a command that these two rows match may have different answers. They do not answer alike, no row behind them
+    /// covers one of them, and they are not seen to be disjoint; or one stands in place of such a row, and something is noted
+    /// before it; or there are more than a thousand rows. If something is noted before a row near the change that may match the
+    /// command too, then before one of these.
     May {
         /// The row of the old policy.
         old: Option<Decider>,
@@ -44,24 +47,26 @@ pub struct Decider {
 }
 
 // Returns a row by itself.
-fn decider_of(row: Option<Ruled<'_>>) -> Result<Option<Decider>, AllocError> {
+fn decider_of(alloc: Global, row: Option<Ruled<'_>>) -> Result<Option<Decider>, AllocError>
+    ensures { IfOk result (λ own. own ≡ option_map unsettled.named (body.shown_if row.entry)) }
+{
     match row {
         None => Ok(None),
         Some(row) => Ok(Some(Decider {
             place: row.place,
             answer: row.answer,
-            atom: row.shape.atom.clone()?,
+            atom: atom_copied(alloc, &row.shape.atom)?,
         })),
     }
 }
 
 // Returns that the policies may answer otherwise what these rows fit.
-fn may(overlap: Overlap<'_>) -> Result<Compared, AllocError>
-    ensures { IfOk result (λ c. (ds es : List TheDecider) → witnesses.IsCompared ds es c) }
+fn may(alloc: Global, overlap: Overlap<'_>) -> Result<Compared, AllocError>
+    ensures { IfOk result (λ found. found ≡ body.may_of overlap.entry) }
 {
     Ok(Compared::May {
-        old: decider_of(overlap.old)?,
-        new: decider_of(overlap.new)?,
+        old: decider_of(alloc, overlap.old)?,
+        new: decider_of(alloc, overlap.new)?,
     })
 }
 
@@ -73,46 +78,102 @@ fn is_noted(row: Option<Ruled<'_>>) -> bool {
     }
 }
 
+// Whether something is noted before one of two rows.
+fn is_either_noted(row: Option<Ruled<'_>>, other: Option<Ruled<'_>>) -> bool {
+    is_noted(row) || is_noted(other)
+}
+
 // Whether both rows may fit one command, if there are both.
-fn meet(own: Option<Ruled<'_>>, row: &Ruled<'_>) -> bool {
+fn meet(own: Option<Ruled<'_>>, row: &Ruled<'_>) -> bool
+    ensures { result ≡ unsettled.meets (body.shown_if own.entry) (body.shown row.now) }
+{
     match own {
         None => false,
         Some(own) => !own.shape.is_disjoint(row.shape),
     }
 }
 
-// Returns the last row that meets these and before which something is noted, if there is one.
-fn last_noted<'a>(overlap: Overlap<'_>, rows: &[Ruled<'a>]) -> Option<Ruled<'a>> {
-    let mut found = None;
-    for row in rows {
-        if !is_unnoted(row.before) && (meet(overlap.old, row) || meet(overlap.new, row)) {
-            found = Some(*row);
+// Whether something is noted before the row, and it meets one of these.
+fn is_noted_beside(overlap: Overlap<'_>, row: &Ruled<'_>) -> bool
+    ensures { result ≡ unsettled.is_noted_beside (body.shown_if overlap.entry.old)
+        (body.shown_if overlap.entry.new) (body.shown row.now) }
+{
+    !is_unnoted(row.before) && (meet(overlap.old, row) || meet(overlap.new, row))
+}
+
+// Returns the last row that meets one of these and before which something is noted, if there is one.
+fn last_noted<'a>(overlap: Overlap<'_>, rows: &[Ruled<'a>]) -> Option<Ruled<'a>>
+    ensures { IfSome result (body.IsBeside rows.now overlap.entry) }
+{
+    let mut end = rows.len();
+    while end > 0 {
+        end -= 1;
+        let row = &rows[end];
+        if is_noted_beside(overlap, row) {
+            return Some(*row);
         }
     }
-    found
+    None
+}
+
+// Returns the row, or else the last noted one.
+fn or_noted<'a>(
+    overlap: Overlap<'_>,
+    rows: &[Ruled<'a>],
+    own: Option<Ruled<'a>>,
+) -> Option<Ruled<'a>>
+    ensures { body.Stands rows.now overlap.entry own.entry result }
+{
+    match own {
+        Some(row) => Some(row),
+        None => last_noted(overlap, rows),
+    }
+}
+
+// Returns the last noted row, or else this one.
+fn noted_or<'a>(
+    overlap: Overlap<'_>,
+    rows: &[Ruled<'a>],
+    own: Option<Ruled<'a>>,
+) -> Option<Ruled<'a>>
+    ensures { body.Stands rows.now overlap.entry own.entry result }
+{
+    match last_noted(overlap, rows) {
+        Some(noted) => Some(noted),
+        None => own,
+    }
 }
 
 // Returns the rows that may answer otherwise, of those near the change. A row before which something is noted, and which meets
-// these, stands where none does; and in place of one, if nothing is noted before either.
-fn with_noted<'a>(overlap: Overlap<'a>, old: &[Ruled<'a>], new: &[Ruled<'a>]) -> Overlap<'a> {
-    let (noted_old, noted_new) = (last_noted(overlap, old), last_noted(overlap, new));
-    let both = Overlap {
-        old: overlap.old.or(noted_old),
-        new: overlap.new.or(noted_new),
-    };
-    if is_noted(both.old) || is_noted(both.new) {
-        return both;
-    }
-    if noted_new.is_some() {
+// one of these, stands where none does; and in place of one, if nothing is noted before either.
+fn with_noted<'a>(overlap: Overlap<'a>, old: &[Ruled<'a>], new: &[Ruled<'a>]) -> Overlap<'a>
+    ensures { body.StandFor old.now new.now overlap.entry result }
+{
+    let own = or_noted(overlap, old, overlap.old);
+    let other = or_noted(overlap, new, overlap.new);
+    if is_either_noted(own, other) {
         return Overlap {
-            old: both.old,
-            new: noted_new,
+            old: own,
+            new: other,
         };
     }
-    Overlap {
-        old: noted_old.or(both.old),
-        new: both.new,
+    match last_noted(overlap, new) {
+        Some(noted) => Overlap {
+            old: own,
+            new: Some(noted),
+        },
+        None => Overlap {
+            old: noted_or(overlap, old, own),
+            new: other,
+        },
     }
+}
+
+// Returns the last row, if there is one.
+fn last_row<'a>(rows: &[Ruled<'a>]) -> Option<Ruled<'a>>
+    ensures { IfSome result (body.IsRow rows.now) }
+{
+    rows.last().copied()
 }
 
 // The most rows of a policy that are compared pair by pair.
@@ -146,17 +207,42 @@ pub(crate) fn have_same_rulings(rows: &[Ruled<'_>], others: &[Ruled<'_>]) -> boo
     true
 }
 
+// Returns that rows near the change are open, with those that are named for them.
+fn open_may(
+    alloc: Global,
+    changed: &Changed<'_, '_>,
+    overlap: Overlap<'_>,
+) -> Result<Compared, AllocError>
+    requires { body.AreOpen changed.now.old.items changed.now.new.items overlap }
+    ensures { IfOk result (witnesses.IsCompared (body.all_shown changed.now.all_old.now)
+        (body.all_shown changed.now.all_new.now)) }
+{
+    may(alloc, with_noted(overlap, &changed.old, &changed.new))
+}
+
+// Returns that there are too many rows near the change, with the last of each policy.
+fn many_may(alloc: Global, changed: &Changed<'_, '_>) -> Result<Compared, AllocError>
+    requires { (unsettled.most_rows < length changed.now.old.items)
+        ⊎ (unsettled.most_rows < length changed.now.new.items) }
+    ensures { IfOk result (witnesses.IsCompared (body.all_shown changed.now.all_old.now)
+        (body.all_shown changed.now.all_new.now)) }
+{
+    let old = last_row(&changed.old);
+    let new = last_row(&changed.new);
+    let last = Overlap { old, new };
+    may(alloc, with_noted(last, &changed.old, &changed.new))
+}
+
 // Compares rows that differ, by the rows near these.
 fn compared_changed(alloc: Global, changed: &Changed<'_, '_>) -> Result<Compared, AllocError>
     ensures { IfOk result (witnesses.IsCompared (body.all_shown changed.now.all_old.now)
         (body.all_shown changed.now.all_new.now)) }
 {
-    if changed.old.len() > MOST_ROWS || changed.new.len() > MOST_ROWS {
-        let last = Overlap {
-            old: changed.old.last().copied(),
-            new: changed.new.last().copied(),
-        };
-        return may(with_noted(last, &changed.old, &changed.new));
+    if changed.old.len() > MOST_ROWS {
+        return many_may(alloc, changed);
+    }
+    if changed.new.len() > MOST_ROWS {
+        return many_may(alloc, changed);
     }
     let found = witnesses(alloc, changed)?;
     if !found.is_empty() {
@@ -164,7 +250,7 @@ fn compared_changed(alloc: Global, changed: &Changed<'_, '_>) -> Result<Compared
     }
     match first_overlap(&changed.old, &changed.new) {
         None => Ok(Compared::Same),
-        Some(overlap) => may(with_noted(overlap, &changed.old, &changed.new)),
+        Some(overlap) => open_may(alloc, changed, overlap),
     }
 }
 

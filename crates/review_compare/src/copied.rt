@@ -3,6 +3,7 @@ ghost use Rattle.std.specs.Prelude.{◌≡◌, IfOk, take};
 ghost use Rattle.review_compare.specs.Body.Comparisons as body;
 
 use crate::compared::{Compared, Decider};
+use crate::text::atom_copied;
 use crate::witness::Witness;
 use std::alloc::{AllocError, Global};
 use sudo_text::Seq;
@@ -32,13 +33,15 @@ fn copied_witnesses(alloc: Global, found: &[Witness]) -> Result<Vec<Witness>, Al
 }
 
 // Returns a copy of a row, if there is one.
-fn copied_decider(decider: &Option<Decider>) -> Result<Option<Decider>, AllocError> {
+fn copied_decider(alloc: Global, decider: &Option<Decider>) -> Result<Option<Decider>, AllocError>
+    ensures { IfOk result (λ copy. copy ≡ decider.now) }
+{
     match decider {
         None => Ok(None),
         Some(decider) => Ok(Some(Decider {
             place: decider.place,
             answer: decider.answer,
-            atom: decider.atom.clone()?,
+            atom: atom_copied(alloc, &decider.atom)?,
         })),
     }
 }
@@ -54,8 +57,8 @@ pub(crate) fn copied(alloc: Global, found: &Compared) -> Result<Compared, AllocE
             Ok(Compared::Differs(Seq::from_vec(copies)))
         }
         Compared::May { old, new } => Ok(Compared::May {
-            old: copied_decider(old)?,
-            new: copied_decider(new)?,
+            old: copied_decider(alloc, old)?,
+            new: copied_decider(alloc, new)?,
         }),
     }
 }

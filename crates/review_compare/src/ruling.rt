@@ -1,5 +1,5 @@
 //! The rows of two policies for a target: whether they agree, by tests on pairs of their commands.
-ghost use Rattle.std.specs.Prelude.{◌≡◌, ◌||◌, not, is_some, option_map, option_copied};
+ghost use Rattle.std.specs.Prelude.{◌≡◌, ◌||◌, not, is_some, IfSome, option_map, option_copied};
 ghost use Rattle.review_compare.specs.Agreement as agreement;
 ghost use Rattle.review_compare.specs.Cells as cells;
 ghost use Rattle.review_compare.specs.Compared as compared;
@@ -90,89 +90,88 @@ fn pair_agrees(own: &Ruled<'_>, later: &[Ruled<'_>], other: &Ruled<'_>, more: &[
         || own.shape.is_disjoint(other.shape)
 }
 
-// Returns the index of the first of the others that answers where none of the rows does.
-fn unlike_none(rows: &[Ruled<'_>], others: &[Ruled<'_>]) -> Option<usize>
-    ensures { is_some result
+// Returns the first of the others that answers where none of the rows does.
+fn unlike_none<'a>(rows: &[Ruled<'_>], others: &[Ruled<'a>]) -> Option<Ruled<'a>>
+    ensures some { is_some result
         ≡ not (body.none_agrees (body.all_shown rows.now) (body.all_shown others.now)) }
+    ensures left { IfSome result (λ other. body.IsLeft (body.all_shown rows.now)
+        (body.all_shown others.now) (body.shown other)) }
 {
     for index in 0..others.len() {
-        if !is_covered_by_either(rows, &others[index + 1..], &others[index]) {
-            return Some(index);
+        let other = &others[index];
+        if !is_covered_by_either(rows, &others[index + 1..], other) {
+            return Some(*other);
         }
     }
     None
 }
 
-// Returns the index of the first of the others that does not agree with the row, behind which these stand.
-fn unlike_each(own: &Ruled<'_>, later: &[Ruled<'_>], others: &[Ruled<'_>]) -> Option<usize>
-    ensures { is_some result ≡ not (body.each_agrees (body.shown own.now)
+// Returns the first of the others that does not agree with the row, behind which these stand.
+fn unlike_each<'a>(own: &Ruled<'_>, later: &[Ruled<'_>], others: &[Ruled<'a>]) -> Option<Ruled<'a>>
+    ensures some { is_some result ≡ not (body.each_agrees (body.shown own.now)
         (body.all_shown later.now) (body.all_shown others.now)) }
+    ensures unlike { IfSome result (λ other. body.IsUnlike (body.shown own.now)
+        (body.all_shown later.now) (body.all_shown others.now) (body.shown other)) }
 {
     for index in 0..others.len() {
-        if !pair_agrees(own, later, &others[index], &others[index + 1..]) {
-            return Some(index);
+        let other = &others[index];
+        if !pair_agrees(own, later, other, &others[index + 1..]) {
+            return Some(*other);
         }
     }
     None
 }
 
-// Where a row does not agree with the others.
-#[derive(Clone, Copy)]
-enum Unlike {
-    // Where none of them answers.
-    None,
-    // Where the one at this index answers.
-    One(usize),
-}
-
-// Returns where the row, behind which these stand, does not agree with the others.
-fn unlike_one(own: &Ruled<'_>, later: &[Ruled<'_>], others: &[Ruled<'_>]) -> Option<Unlike>
-    ensures { is_some result ≡ not (body.one_agrees (body.shown own.now)
+// Returns the first of the others that does not agree with the row, behind which these stand, or none of them if none answers
+// where the row does; or `None`, if the row agrees with all.
+fn unlike_one<'a>(
+    own: &Ruled<'_>,
+    later: &[Ruled<'_>],
+    others: &[Ruled<'a>],
+) -> Option<Option<Ruled<'a>>>
+    ensures some { is_some result ≡ not (body.one_agrees (body.shown own.now)
         (body.all_shown later.now) (body.all_shown others.now)) }
+    ensures unlike { IfSome result (λ other. body.IsUnlikeIf (body.shown own.now)
+        (body.all_shown later.now) (body.all_shown others.now) (body.shown_if other)) }
 {
     if !is_covered_by_either(later, others, own) {
-        return Some(Unlike::None);
+        return Some(None);
     }
     match unlike_each(own, later, others) {
-        Some(index) => Some(Unlike::One(index)),
+        Some(other) => Some(Some(other)),
         None => None,
     }
 }
 
 // Returns a row of each list, if any, that do not agree, pair by pair.
 fn first_unlike<'a>(old: &[Ruled<'a>], new: &[Ruled<'a>]) -> Option<Overlap<'a>>
-    ensures { is_some result
+    ensures some { is_some result
         ≡ not (body.pairs_agree (body.all_shown old.now) (body.all_shown new.now)) }
+    ensures are_open { IfSome result (body.AreOpen old.now new.now) }
 {
-    if let Some(index) = unlike_none(old, new) {
+    if let Some(other) = unlike_none(old, new) {
         return Some(Overlap {
             old: None,
-            new: new.get(index).copied(),
+            new: Some(other),
         });
     }
     for index in 0..old.len() {
-        if let Some(unlike) = unlike_one(&old[index], &old[index + 1..], new) {
+        let own = &old[index];
+        if let Some(other) = unlike_one(own, &old[index + 1..], new) {
             return Some(Overlap {
-                old: Some(old[index]),
-                new: other_at(new, unlike),
+                old: Some(*own),
+                new: other,
             });
         }
     }
     None
 }
 
-// Returns the row that is meant, if any.
-fn other_at<'a>(others: &[Ruled<'a>], unlike: Unlike) -> Option<Ruled<'a>> {
-    match unlike {
-        Unlike::None => None,
-        Unlike::One(index) => others.get(index).copied(),
-    }
-}
-
 /// Returns a row of each policy, if any, that may answer one command otherwise; or `None`, if the rows agree.
 pub(crate) fn first_overlap<'a>(old: &[Ruled<'a>], new: &[Ruled<'a>]) -> Option<Overlap<'a>>
-    ensures { is_some result
+    ensures some { is_some result
         ≡ not (cells.rows_agree (body.all_shown old.now) (body.all_shown new.now)) }
+    ensures are_open { IfSome result (body.AreOpen old.now new.now) }
 {
     first_unlike(old, new)
 }

@@ -1,6 +1,7 @@
 -- Classes of hosts; only proofs of bodies need these definitions.
-use Rattle.std.specs.Prelude.{◌≡◌, ◌⊎◌, ◌<◌, ℕ, true, List, [], ◌∷◌, ◌++◌, get_or, length}
+use Rattle.std.specs.Prelude.{◌≡◌, ◌⊎◌, ◌<◌, ℕ, true, List, [], ◌∷◌, ◌++◌, get_or, length, Option, Some, None}
 use Rattle.sudo_match.specs.declared.people.Person.{Person}
+use Rattle.sudo_verdict.specs.Questions.{Question}
 use Rattle.review_compare.specs.declared.ask_class.AskClass.{AskClass}
 use Rattle.review_compare.specs.declared.cell.Ask.{Ask}
 use Rattle.review_compare.specs.declared.cell.Cell.{Cell}
@@ -8,19 +9,26 @@ use Rattle.review_compare.specs.declared.compared.Compared.{Compared}
 use Rattle.review_compare.specs.declared.host_class.HostClass.{HostClass}
 use Rattle.review_compare.specs.declared.pair.Pair.{Pair}
 use Rattle.review_compare.specs.declared.spot.Listed.{Listed}
-use Rattle.review_compare.specs.Differences.{IsFound, SameIf, question_at}
-use Rattle.review_compare.specs.Body.AskClasses.{AreAsked}
+use Rattle.review_compare.specs.Cells.{deciders}
+use Rattle.review_compare.specs.Differences.{SameIf, question_at}
+use Rattle.review_compare.specs.Body.AskClasses.{AreAsked, changed_by}
 use Rattle.review_compare.specs.Body.Merged.{IsOnAmong, is_among}
+use Rattle.review_compare.specs.Body.Near.{IsFoundNear}
 use Rattle.review_compare.specs.Body.Progress.{AreListedIn, IsSpot}
 
 -- the same blocks of both policies
 abbrev pub AreSameBlocks : Listed → Listed → Type 0
 AreSameBlocks k l = (k.old.items ≡ l.old.items) × (k.new.items ≡ l.new.items)
 
--- what is found is right in the cells of the user on the hosts, with one of these asks
+-- what is found is right for the question; where it is not settled, by the rows near the change
+abbrev pub IsFoundAt : Pair → Option Question → Compared → Type 0
+IsFoundAt p None f = Unit {0}
+IsFoundAt p (Some q) f = IsFoundNear (changed_by p) (deciders p.old.checked.now q) (deciders p.new.checked.now q) f
+
+-- so it is in the cells of the user on the hosts, with one of these asks
 abbrev pub IsRightIn : Pair → ℕ → List ℕ → (Ask → Type 0) → Compared → Type 0
 IsRightIn p user hosts asked f = (c : Cell) → IsOnAmong user hosts asked c →
-    IsFound p.old.checked.now p.new.checked.now p.directory.now p.groups.now c f
+    IsFoundAt p (question_at p.directory.now p.groups.now c) f
 
 -- so is what is found for each class of asks
 abbrev pub AreRightIn : Pair → ℕ → List ℕ → List AskClass → List Compared → Type 0

@@ -7,8 +7,12 @@ use Rattle.sudo_text.specs.declared.line.Place.{Place}
 use Rattle.review_compare.specs.declared.block.Block.{Block}
 use Rattle.review_compare.specs.declared.block.BlockRow.{BlockRow}
 use Rattle.review_compare.specs.declared.common.Common.{Common}
+use Rattle.review_compare.specs.declared.compared.Compared.{Compared}
+use Rattle.review_compare.specs.declared.compared.Compared.TheVariants as compared
 use Rattle.review_compare.specs.declared.spot.Listed.{Listed}
 use Rattle.review_compare.specs.Cells.{Decider}
+use Rattle.review_compare.specs.Unsettled.{IsUnsettled}
+use Rattle.review_compare.specs.Witnesses.{IsCompared}
 use Rattle.review_compare.specs.Body.ChangedRows.{is_near}
 use Rattle.review_compare.specs.Body.Chosen.{chosen, deciders_at, deciders_of, standing_among}
 
@@ -61,3 +65,9 @@ each_one i = true
 -- what the near blocks answer that stand
 abbrev pub near_deciders : Policy → List Block → List ℕ → Question → List Decider
 near_deciders p bs near q = standing_among p bs q each_one near
+
+-- what is found of two lists of rows; where it is not settled, of the near ones of each
+abbrev pub IsFoundNear : List Decider → List Decider → List Decider → Compared → Type 0
+IsFoundNear changed ds es compared.Same = IsCompared ds es compared.Same
+IsFoundNear changed ds es (compared.Differs ws) = IsCompared ds es (compared.Differs ws)
+IsFoundNear changed ds es (compared.May r s) = IsUnsettled (near_of changed ds) (near_of changed es) r s

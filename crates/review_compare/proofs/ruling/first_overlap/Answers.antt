@@ -3,5 +3,5 @@ use Rattle.review_compare.specs.Body.Shown.{all_shown}
 use Rattle.review_compare.proofs.RulingLemmas.{rows-pairs}
 use Rattle.review_compare.proofs.ruling.first_overlap.Goals as goal
 
-pub returns : goal.returns
-returns c = c.first_unlike.ensures ∙ ap not (sym (rows-pairs (all_shown c.args.old.now) (all_shown c.args.new.now)))
+pub returns-clause-some : goal.returns-clause-some
+returns-clause-some c = c.first_unlike.ensures.some ∙ ap not (sym (rows-pairs (all_shown c.args.old.now) (all_shown c.args.new.now)))
