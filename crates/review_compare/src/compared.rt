@@ -116,7 +116,7 @@ fn last_noted<'a>(overlap: Overlap<'_>, rows: &[Ruled<'a>]) -> Option<Ruled<'a>>
     None
 }
 
-// Returns the row, or else the last noted one.
+// Returns the row if there is one, and otherwise the last noted row.
 fn or_noted<'a>(
     overlap: Overlap<'_>,
     rows: &[Ruled<'a>],
@@ -130,7 +130,7 @@ fn or_noted<'a>(
     }
 }
 
-// Returns the last noted row, or else this one.
+// Returns the last noted row if there is one, and otherwise this row.
 fn noted_or<'a>(
     overlap: Overlap<'_>,
     rows: &[Ruled<'a>],

@@ -164,7 +164,7 @@ map-at f [] i x e = cc
 map-at f (y ∷ xs) zero x e = let same : y ≡ x = cc in ap (λ z. Some (f z)) same
 map-at f (y ∷ xs) (suc i) x e = map-at f xs i x e
 
--- what is picked and what is not are all
+-- each element is picked or left over
 pub picked-length : {X Y : Type 0} (pick : X → Option Y) (xs : List X) → length (filter (λ x. not (is_some (pick x))) xs)
     + length (filter_map pick xs) ≡ length xs
 picked-length pick [] = refl

@@ -115,7 +115,7 @@ module _ (h : HostSteps) (c : Candidate) (is : IsCandidate h c) where
           (All-contains (λ b. reaches h b.aim c ≡ false) (take k aims) one far
           (at-contains (take k aims) one j (before aims j k one less at)))
 
-  -- it is none of the first
+  -- a candidate without a step to the aim at an index has its first step to a later aim
   pub first-later :
       (aims : List Aimed) (k : ℕ) (a : Aimed) → k < length aims → a ≡ get_or aims k a → reaches h a.aim c ≡ false →
       first_of h (map (λ (b : Aimed). b.aim) aims) c ≡ first_of h (map (λ (b : Aimed). b.aim) (drop k aims)) c →
@@ -126,7 +126,7 @@ module _ (h : HostSteps) (c : Candidate) (is : IsCandidate h c) where
       (drop-next aims k a within ∙ ap (λ (b : Aimed). b ∷ drop (k + 1) aims) (sym this))
       ∙ ap (λ r. cond r (Some (found_by h a.aim c)) (first_of h (map (λ (b : Aimed). b.aim) (drop (k + 1) aims)) c)) none
 
--- the same of the same aims, and of what is the same
+-- equal aims have one that is like the aim, by equal blocks
 pub like-told : (read aims : List Aimed) (aim : Aim) (t u : Toward) → read ≡ aims → t ≡ u → HasLike read aim t → HasLike aims aim u
 like-told read aims aim t u same known like = subst (λ xs. HasLike xs aim u) same (subst (HasLike read aim) known like)
 

@@ -20,7 +20,7 @@ pub fn user_name(directory: &Directory, user: usize) -> &[u8]
     }
 }
 
-// Returns how a state stands to another one in their order.
+// Compares two states by the names of their users, and then by their added groups.
 fn compare(directory: &Directory, one: State, other: State) -> Ordering
     ensures { result ≡ spec.state_cmp directory.now one other }
 {

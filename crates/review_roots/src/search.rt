@@ -89,7 +89,7 @@ fn is_none(left: &[&Candidate]) -> bool
 }
 
 // Finds the candidates from which steps of the level, or of a better one, lead to what is found, those with the shortest chains first,
-// and of these each with the first one, and returns the others.
+// each with the first of its shortest chains, and returns the others.
 fn spread<'c>(
     alloc: Global,
     steps: &HostSteps<'_, '_>,

@@ -81,7 +81,7 @@ pub record IsUnlike (d : Decider) (later es : List Decider) (e : Decider) : Type
   pub way : IsWay es (Some e) behind
   pub unlike : pair_agrees d later e behind ≡ false
 
--- so is this one of the others; or there is none, and none of them covers the row
+-- the row that is given does not agree with this one; if none is given, neither these nor the others cover this one
 abbrev pub IsUnlikeIf : Decider → List Decider → List Decider → Option Decider → Type 0
 IsUnlikeIf d later es None = is_covered_by_either later es (lined_of d) ≡ false
 IsUnlikeIf d later es (Some e) = IsUnlike d later es e

@@ -256,7 +256,7 @@ abbrev pub IsLower : HostSteps → ℕ → Level → List Found → Option Chain
 IsLower h target l above None = is_at_least h.least l ≡ true → IsComplete (any_steps h target) h.states.now l above
 IsLower h target l above (Some c) = ChainsLead h target l c
 
--- what was found at the lower level, or else above
+-- what was found at the lower level, and otherwise what was found above
 abbrev pub lower_found : List Found → Option Chains → List Found
 lower_found above None = above
 lower_found above (Some c) = c.any.items
@@ -358,11 +358,11 @@ pub record AreLike (one : Aimed) (aim : Aim) (t : Toward) : Type 0 where
   pub counted : one.aim.counted ≡ aim.counted
   pub allowed : (any_toward one.toward).allowed.items ≡ t.allowed.items
 
--- one of the aims is such a one
+-- one of the aims is another one of the same user, whose steps the same blocks allow
 abbrev pub HasLike : List Aimed → Aim → Toward → Type 0
 HasLike aims aim t = (one : Aimed) × (Contains aims one × AreLike one aim t)
 
--- of each aim that is said to be like one before it that is so
+-- each aim that is marked as like an earlier one is like one of these
 abbrev pub TellLike : List Aimed → Type 0
 TellLike aims =
     (k : ℕ) (a : Aimed) → slice_get aims k ≡ Some a → a.is_like ≡ true →
