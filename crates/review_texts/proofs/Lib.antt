@@ -8,3 +8,5 @@ pub mod Newlines
 pub mod NoPath
 pub mod OneMask
 pub mod Beginnings
+pub mod MeaningLemmas
+pub mod ReadingLemmas

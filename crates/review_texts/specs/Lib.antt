@@ -2,6 +2,7 @@ pub mod Words
 pub mod Options
 pub mod Digests
 pub mod Expressions
+pub mod Meaning
 pub mod Places
 pub mod Masks
 pub mod Notes

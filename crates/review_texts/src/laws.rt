@@ -1,5 +1,6 @@
 //! Laws of masks.
 ghost use Rattle.review_texts.specs.Laws.{ReadIsLeft, LinesStay, CountStays, OneMaskedText, NothingFits, NotesFitNothing};
+ghost use Rattle.review_texts.specs.Meaning.{BoundsHold, EachIsExpression};
 
 /// The text of a file that the fixed parser reads is left alone, byte for byte.
 pub fn read_lines_are_left_alone()
@@ -25,4 +26,15 @@ pub fn no_command_is_listed()
 /// No command fits what stands for a note.
 pub fn notes_fit_nothing()
     ensures { NotesFitNothing }
+{}
+
+/// Each text that is read as a regular expression is written as one.
+pub fn each_is_expression()
+    ensures { EachIsExpression }
+{}
+
+/// Each path that a regular expression below a folder fits is that of a file of the folder, so what stands for the expression takes no
+/// command away.
+pub fn bounds_hold()
+    ensures { BoundsHold }
 {}

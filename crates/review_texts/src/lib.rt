@@ -17,14 +17,12 @@ mod readable;
 mod reading;
 mod standing;
 mod texts;
-#[cfg(test)]
-mod trials;
 mod words;
 
 pub use files::Masked;
 pub use laws::{
-    lines_stay, no_command_is_listed, notes_fit_nothing, read_lines_are_left_alone,
-    texts_have_one_mask,
+    bounds_hold, each_is_expression, lines_stay, no_command_is_listed, notes_fit_nothing,
+    read_lines_are_left_alone, texts_have_one_mask,
 };
 pub use mask::Mask;
 pub use masks::{as_written, mask_line, mask_of};

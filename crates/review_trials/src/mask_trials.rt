@@ -1,7 +1,7 @@
 //! Texts before and behind their masks. Many lines are those of sudo's own tests.
 
-use crate::{Readable, mask_text};
 use audit_files::Triple;
+use review_texts::{Readable, mask_text};
 use std::alloc::{AllocError, Global};
 use std::test::Fail;
 use sudo_text::Seq;
