@@ -17,7 +17,7 @@ from typing import NamedTuple
 
 import listing
 from drawn import Drawn
-from listing import FITS, FITS_GROUP, GROUPS, KNOWN_GROUPS, USERS, written_out
+from listing import FITS, FITS_GROUP, GROUPS, KNOWN_GROUPS, written_out
 from support import REVIEW, needs_review
 
 POLICIES = int(os.environ.get("POLICIES", "100"))
@@ -50,13 +50,11 @@ class State(NamedTuple):
 
 
 STATES = [State(user, added) for added in ("", *sorted(KNOWN_GROUPS)) for user in GROUPS]
-# The known groups in their order: that of the users file.
-IN_ORDER = ["", *dict.fromkeys(re.findall(r"([a-z]+):", USERS))]
 
 
-def place(state: State) -> tuple[bytes, int]:
-    """Returns the place of a state among others: by the name of its user, and then by its added group."""
-    return os.fsencode(state.user), IN_ORDER.index(state.added)
+def place(state: State) -> tuple[bytes, bytes]:
+    """Returns the place of a state among others: by the name of its user, and then by that of its added group, if any."""
+    return os.fsencode(state.user), os.fsencode(state.added)
 
 
 class Grant(NamedTuple):
@@ -117,8 +115,9 @@ def given_by(grants: list[Grant]) -> Given:
     return Given(level, 2 if set(kinds) == {False} else int(False in kinds), place, tags)
 
 
-def cost(password: str, policy: str) -> int:
-    """Returns the place of a password among `PASSWORDS`; one's own counts as another's where a runas has a list of groups."""
+def weight(password: str, policy: str) -> int:
+    """Returns the place of a password among `PASSWORDS`; one's own is as another's where a runas has a list of groups, since it
+    may be asked for with an added group."""
     place = PASSWORDS.index(password)
     return min(place, 2) if re.search(r"\([^)]*:", policy) else place
 
@@ -127,7 +126,7 @@ class Host:
     """A policy on a host."""
 
     def __init__(self, policy: listing.Policy, host: str) -> None:
-        self.policy, self.host, self.text = policy, host, str(policy)
+        self.policy, self.host = policy, host
         self.grants = {state: list(self.grants_of(state)) for state in STATES}
         self.steps = {(one, other): self.step(one, other) for one in STATES for other in STATES}
 
@@ -179,10 +178,16 @@ class Host:
         ease = self.steps[one, other].ease
         return 2 - ease if ease else 2 + (one.user != user)
 
+    def cost(self, user: str, one: State, other: State) -> int:
+        """Returns how much a step asks for, in a chain that begins with a user: nothing, perhaps a password, one's own without an
+        added group, or more."""
+        ease = self.steps[one, other].ease
+        return 2 - ease if ease else 2 + (one != State(user))
+
     def first(self, user: str, level: int, most: int) -> list[State]:
-        """Returns the first of the shortest chains from a user to root, of a level or a better one, that ask for no more than a
-        password; or none."""
-        good = {pair for pair, it in self.steps.items() if it.level >= level and self.asked(user, *pair) <= most}
+        """Returns the first of the shortest chains from a user to root, of a level or a better one, whose steps ask for no more;
+        or none."""
+        good = {pair for pair, it in self.steps.items() if it.level >= level and self.cost(user, *pair) <= most}
         left = dict.fromkeys((state for state in STATES if state.user == "root"), 0)
         last = set(left)
         while last:
@@ -195,15 +200,13 @@ class Host:
         return chain[1:]
 
     def best(self) -> dict[str, tuple[str, int, list[State]]]:
-        """Returns of each user that leads to root the best level, the least cost at that level, and the first of the shortest
-        chains then."""
+        """Returns of each user that leads to root the best level, how much a chain of that level asks for at least, and the first
+        of the shortest chains then."""
         best: dict[str, tuple[str, int, list[State]]] = {}
         for level, most, user in itertools.product((1, 2, 3), (3, 2, 1, 0), GROUPS):
             chain = self.first(user, level, most)
-            least = cost(PASSWORDS[most], self.text)
-            # A further password that costs no less is no reason for another chain.
-            if chain and best.get(user, ("", 4))[:2] != (LEVELS[level], least):
-                best[user] = LEVELS[level], least, chain
+            if chain:
+                best[user] = LEVELS[level], most, chain
         return best
 
     def shown(self, row: Row) -> tuple[str, str, str, str, list[State]]:
@@ -294,7 +297,8 @@ class Roots(Drawn):
             level, password, first_place, tags, chain = host.shown(row)
             wanted = password if is_sure or password == "none" else "?"
             self.assertEqual(row[2:7], ("root", level, wanted, first_place, tags))
-            self.assertEqual((row.level, cost(password, host.text), chain), best[row.user])
+            most = max((host.cost(row.user, *pair) for pair in itertools.pairwise([State(row.user), *chain])), default=0)
+            self.assertEqual((row.level, most, chain), best[row.user])
 
     def seen(self, policy: listing.Policy, is_sure: bool) -> Iterator[str]:
         """Yields what there is in the table of a policy. Fails where it is not that of the second body."""
@@ -323,10 +327,10 @@ class Roots(Drawn):
                     order = (*LEVELS, "root")
                     self.assertGreaterEqual(order.index(bound.level), order.index(row.level), (bound, row, text))
                     if bound.level == row.level:
-                        self.assertLessEqual(cost(bound.password, whole), cost(row.password, whole), (bound, row, text))
+                        self.assertLessEqual(weight(bound.password, whole), weight(row.password, whole), (bound, row, text))
                 else:
                     self.assertEqual(bound.level, row.level, (bound, row, text))
-                    self.assertEqual(cost(bound.password, whole), cost(row.password, whole), (bound, row, text))
+                    self.assertEqual(weight(bound.password, whole), weight(row.password, whole), (bound, row, text))
         yield from (row.depends for row in most.values())
 
     def test_what_is_noted_is_bounded(self) -> None:

@@ -12,7 +12,7 @@ use Rattle.sudo_match.specs.declared.people.Person.{Person}
 use Rattle.review_cautions.specs.PasswordDefaults.{decides_passwords}
 use Rattle.review_texts.specs.Notes.{notes}
 use Rattle.review_grants.specs.Depends.{depends_text, has_mark}
-use Rattle.review_roots.specs.AddableGroups.{addable_groups}
+use Rattle.review_roots.specs.AddableGroups.{AreAddable}
 use Rattle.review_roots.specs.Order.{user_name}
 use Rattle.review_roots.specs.Ranks.{level_name}
 use Rattle.review_roots.specs.Roots.{AreRoots}
@@ -108,10 +108,10 @@ pub record AreTargetRows (p : Policy) (d : KnownRows) (all : Bool) (m : Machine)
   pub policy_is : steps.checked.now ≡ p
   pub directory_is : steps.directory.now ≡ d
   pub host_is : steps.host.now ≡ m
-  pub groups_are : steps.groups.now ≡ addable_groups p d
+  pub groups_are : AreAddable p d steps.groups.now
   pub roots : List Root
   pub are : AreRoots steps target (least_listed all) roots
-  pub text_is : text ≡ flat_map (λ r. line (root_fields p d (addable_groups p d) m target r)) roots
+  pub text_is : text ≡ flat_map (λ r. line (root_fields p d steps.groups.now m target r)) roots
 
 -- each item has its text, in order
 abbrev pub Each : {X : Type 0} → (X → List ℕ → Type 0) → List X → List (List ℕ) → Type 0

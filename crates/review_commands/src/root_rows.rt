@@ -3,7 +3,7 @@ ghost use Rattle.std.specs.Prelude.{◌≡◌, ◌++◌, ◌∷◌, [], IfOk, On
 ghost use Rattle.csv.specs.Writing.{default_writer, fields_text};
 ghost use Rattle.audit_files.specs.Report.{line};
 ghost use Rattle.review_cautions.specs.PasswordDefaults.{decides_passwords};
-ghost use Rattle.review_roots.specs.AddableGroups.{addable_groups};
+ghost use Rattle.review_roots.specs.AddableGroups.{AreAddable};
 ghost use Rattle.review_commands.specs.RootRows as spec;
 
 use audit_files::{push_field, push_next_field, push_place, put_tags};
@@ -24,7 +24,7 @@ pub(crate) struct RootTable<'a> {
     pub(crate) groups: &'a [Group],
     pub(crate) unsure: bool,
     pub(crate) all: bool,
-    ghost grouped: { groups.now ≡ addable_groups checked.now directory.now },
+    ghost grouped: { AreAddable checked.now directory.now groups.now },
     ghost decided: { unsure ≡ decides_passwords checked.now },
 }
 

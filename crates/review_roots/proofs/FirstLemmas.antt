@@ -51,7 +51,7 @@ along-all found index at chain f there_f is so_far =
 -- ---- Two chains, by their first states
 
 -- a chain does not go behind another one if its first state does not, and, where the first states are the same, the others do not
-first-states :
+pub first-states :
     (d : KnownRows) (s u : State) (ss us : List State) → is_gt (state_cmp d s u) ≡ false →
     (state_cmp d s u ≡ Equal → is_behind d ss us ≡ false) → is_behind d (s ∷ ss) (u ∷ us) ≡ false
 first-states d s u ss us not rest = go (state_cmp d s u) refl not
@@ -99,7 +99,7 @@ module _ (h : HostSteps) (q : Sought) (l : Level) (found : List Found) (are : Ar
   known-person s inside = there d.people s.user (state-parts (length d.people) (length h.groups.now) s inside).0
 
   -- states at one place in the order are the same
-  one-place : (s u : State) → Contains g.states s → Contains g.states u → state_cmp d s u ≡ Equal → s ≡ u
+  pub one-place : (s u : State) → Contains g.states s → Contains g.states u → state_cmp d s u ≡ Equal → s ≡ u
   one-place s u in_s in_u e =
       let p = known-person s in_s in
       let r = known-person u in_u in

@@ -1,5 +1,5 @@
 -- The chain that is chosen asks for no more than any of its level, and has no more steps than those that ask for no more.
-use Rattle.std.proofs.Common.{◌≡◌, ◌<◌, ◌≤◌, ◌∙◌, ◌⊎◌, ℕ, true, false, List, ap, arith, refl, get_or, length, map, subst, sym}
+use Rattle.std.proofs.Common.{◌≡◌, ◌<◌, ◌≤◌, ◌∙◌, ◌⊎◌, ℕ, true, List, ap, arith, refl, length, subst, sym}
 use Rattle.std.proofs.Common.{Option, Some, None, inl, inr}
 use Rattle.std.specs.Prelude.{MatchOption, slice_get}
 use Rattle.std.specs.List.{Contains}
@@ -12,27 +12,21 @@ use Rattle.review_roots.specs.declared.level.Level.{Level}
 use Rattle.review_roots.specs.declared.level.Level.TheVariants as level
 use Rattle.review_roots.specs.declared.chains.Chains.{Chains}
 use Rattle.review_roots.specs.declared.chains.Levels.{Levels}
-use Rattle.review_roots.specs.declared.near.Turning.{Turning}
 use Rattle.review_roots.specs.declared.search.Found.{Found}
 use Rattle.review_roots.specs.declared.search.Sought.{Sought}
 use Rattle.review_roots.specs.declared.state.State.{State}
 use Rattle.review_roots.specs.declared.way.Way.{Way}
-use Rattle.review_roots.specs.Sought.{any_steps, free_steps, own_steps, unasked_steps, steps_of}
+use Rattle.review_roots.specs.Sought.{any_steps, free_steps, steps_of}
 use Rattle.review_roots.specs.Chains.{HasNoPath, HasPath, LeadsAlong, Path}
-use Rattle.review_roots.specs.Body.Found.{AreUnentered, TurningLeads}
-use Rattle.review_roots.specs.Body.Found.{AreFound, AreLevels, AreOrdered, ChainsLead, IsBest, IsComplete, IsFound, IsFoundAt, IsLower}
+use Rattle.review_roots.specs.Body.Found.{AreFound, AreLevels, AreOrdered, IsBest, IsComplete, IsFound, IsFoundAt, IsLower}
 use Rattle.review_roots.specs.Body.Found.{any_sought, found_states, lower_found}
 use Rattle.review_roots.specs.Ranks.{is_at_least, rank}
-use Rattle.review_roots.specs.States.{state_with}
-use Rattle.review_roots.specs.declared.way.Password.TheVariants as password
-use Rattle.review_roots.specs.Ways.{IsChain, IsLeading, IsWay, adds_groups, password_along, password_cost, password_rank}
+use Rattle.review_roots.specs.States.{is_start, state_with}
+use Rattle.review_roots.specs.Ways.{IsChain, IsLeading, IsWay, cost_along}
 use Rattle.review_roots.proofs.ChainLemmas.{chains-are-paths}
-use Rattle.review_roots.proofs.EaseLemmas.{Excludes, IsOf, chain-asks-most, counted-leads, easiest-of, little-leads, most_of}
-use Rattle.review_roots.proofs.EaseLemmas.{excludes-each, excludes-none, excludes-some}
-use Rattle.review_roots.proofs.EaseLemmas.{IsTold, costs-more, costs-own, told-most}
+use Rattle.review_roots.proofs.EaseLemmas.{asks-perhaps, chain-asks-most, counted-leads, little-leads, most_of}
 use Rattle.review_roots.proofs.KeptLemmas.{host-keeps}
-use Rattle.review_roots.proofs.OwnLemmas.{own-none, unentered-none}
-use Rattle.review_roots.proofs.PathLemmas.{no-root, starts-chainless}
+use Rattle.review_roots.proofs.PathLemmas.{no-root}
 use Rattle.review_roots.proofs.RootLemmas.{start-is, states-have}
 use Rattle.review_roots.proofs.SearchLemmas.{at-least-below, at-least-trans, from-map}
 
@@ -73,21 +67,30 @@ module _
       leads-at k is =
           subst (λ m. LeadsAlong (steps_of h (record { target = target; counted = k })) m start w.chain.items) leveled is.leads
 
-      asks-most : (k : Counted) → IsOf k user → IsChain h (record { target = target; counted = k }) start w
-          → password_rank w.password ≤ most_of k
-      asks-most k of is =
-          subst (λ p. password_rank p ≤ most_of k) (sym is.password)
-          (chain-asks-most h target l listed-too k user of start w.chain.items (leads-at k is))
+      asks-most : (k : Counted) → IsChain h (record { target = target; counted = k }) start w
+          → cost_along h user start w.chain.items ≤ most_of k
+      asks-most k is = chain-asks-most h (is_start user) target l listed-too k start w.chain.items (leads-at k is)
 
-      -- a chain of steps that count is the one that is sought, where none of its level costs less
-      way-with : (k : Counted) → IsOf k user → IsTold h k → IsChain h (record { target = target; counted = k }) start w →
-          ((ts : List State) → IsLeading h target l start ts
-          → password_cost h w.password ≤ password_cost h (password_along h user start ts)) → IsWay h target h.least start w
-      way-with k of told is easy = record {
+      -- no chain has a better level
+      pub best-level : (m : Level) → HasPath (any_steps h target) m start → is_at_least m w.level ≡ true
+      best-level m p = subst (λ n. is_at_least m n ≡ true) (sym leveled) (go (cases_lt (rank l) (rank m)))
+        where
+          go : (rank l < rank m) ⊎ (rank m ≤ rank l) → is_at_least m l ≡ true
+          go (inl better) = absurd (best m better p.0 p.1)
+          go (inr worse) = at-least-below m l worse
+
+      pub leading-at : (ts : List State) → IsLeading h target w.level start ts → IsLeading h target l start ts
+      leading-at ts leading = subst (λ m. IsLeading h target m start ts) leveled leading
+
+      -- a chain of steps that count is the one that is sought, where none of its level asks for less
+      way-with : (k : Counted) → IsChain h (record { target = target; counted = k }) start w →
+          ((ts : List State) → IsLeading h target l start ts → cost_along h user start w.chain.items ≤ cost_along h user start ts) →
+          IsWay h target h.least start w
+      way-with k is easy = record {
         inside = is.inside;
         leads = subst (λ m. LeadsAlong (any_steps h target) m start w.chain.items) (sym leveled)
-            (counted-leads h target l listed-too k start w.chain.items (leads-at k is));
-        best = λ m p. subst (λ n. is_at_least m n ≡ true) (sym leveled) (most m p (cases_lt (rank l) (rank m)));
+            (counted-leads h (is_start user) target l listed-too k start w.chain.items (leads-at k is));
+        best = best-level;
         enough = subst (λ m. is_at_least h.least m ≡ true) (sym leveled) enough;
         by = is.by;
         password = is.password;
@@ -95,87 +98,42 @@ module _
         easiest = λ ts leading. easy ts (leading-at ts leading);
         shortest = λ ts leading less.
             let leading' = leading-at ts leading in
-            let most = asks-most k of is in
             is.shortest (length ts)
             (subst (λ m. Path (steps_of h (record { target = target; counted = k })) m (length ts) start) (sym leveled)
             (chains-are-paths State (steps_of h (record { target = target; counted = k })) l start ts start-state leading'.inside
-            (little-leads h target l k user of start ts leading'.leads
-            (told-most h k told w.password (password_along h user start ts) most less))));
+            (counts ts leading' less)));
         first = λ ts leading less few.
             let leading' = leading-at ts leading in
-            let most = asks-most k of is in
             is.first ts leading'.inside
             (subst (λ m. LeadsAlong (steps_of h (record { target = target; counted = k })) m start ts) (sym leveled)
-            (little-leads h target l k user of start ts leading'.leads
-            (told-most h k told w.password (password_along h user start ts) most less))) few;
+            (counts ts leading' less)) few;
       }
         where
-          most : (m : Level) → HasPath (any_steps h target) m start → (rank l < rank m) ⊎ (rank m ≤ rank l) → is_at_least m l ≡ true
-          most m p (inl better) = absurd (best m better p.0 p.1)
-          most m p (inr worse) = at-least-below m l worse
-
-          leading-at : (ts : List State) → IsLeading h target w.level start ts → IsLeading h target l start ts
-          leading-at ts leading = subst (λ m. IsLeading h target m start ts) leveled leading
-
-      -- where none of its level asks for less
-      way-by : (k : Counted) → IsOf k user → IsTold h k → IsChain h (record { target = target; counted = k }) start w →
-          Excludes h target l start w.password → IsWay h target h.least start w
-      way-by k of told is excludes = way-with k of told is
-          (λ ts leading. costs-more h w.password (password_along h user start ts)
-          (easiest-of h target l start w.password start-state excludes ts leading))
+          counts : (ts : List State) → IsLeading h target l start ts → cost_along h user start ts ≤ cost_along h user start w.chain.items
+              → LeadsAlong (steps_of h (record { target = target; counted = k })) l start ts
+          counts ts leading less =
+              let most = asks-most k is in
+              little-leads h (is_start user) target l k start ts leading.leads (omega (arith, most, less))
 
       pub way-free : IsChain h (record { target = target; counted = counted.Free }) start w → IsWay h target h.least start w
-      way-free is = way-by counted.Free tt tt is (excludes-none h target l start w.password (asks-most counted.Free tt is))
+      way-free is = way-with counted.Free is (λ ts leading. let none = asks-most counted.Free is in omega (arith, none))
 
       pub way-unasked :
           HasNoPath (free_steps h target) l start → IsChain h (record { target = target; counted = counted.Unasked }) start w →
           IsWay h target h.least start w
-      way-unasked free is =
-          way-by counted.Unasked tt tt is (excludes-some h target l start w.password free (asks-most counted.Unasked tt is))
+      way-unasked free is = way-with counted.Unasked is (λ ts leading.
+          let most = asks-most counted.Unasked is in
+          let some = asks-perhaps h (is_start user) target l start start-state free ts leading in
+          omega (arith, most, some))
 
-      pub way-own :
-          adds_groups h ≡ false → HasNoPath (free_steps h target) l start → HasNoPath (unasked_steps h target) l start →
-          IsChain h (record { target = target; counted = counted.Own user }) start w → IsWay h target h.least start w
-      way-own alone free unasked is =
-          way-by (counted.Own user) refl alone is
-          (excludes-each h target l start w.password free unasked (inl (asks-most (counted.Own user) refl is)))
-
-      -- a chain of any steps that asks for nobody else's, or where each does
+      -- a chain of any steps, where each asks for more than one's own at the first step
       pub way-any :
-          HasNoPath (free_steps h target) l start → HasNoPath (unasked_steps h target) l start →
-          (password_rank w.password ≤ 2) ⊎ HasNoPath (own_steps h target user) l start → IsChain h (any_sought target) start w →
+          ((ts : List State) → IsLeading h target l start ts → 3 ≤ cost_along h user start ts) → IsChain h (any_sought target) start w →
           IsWay h target h.least start w
-      way-any free unasked own is = way-by counted.Any tt tt is (excludes-each h target l start w.password free unasked own)
-
-      -- a chain of any steps where groups may be added, and each asks for a password
-      pub way-added :
-          adds_groups h ≡ true → HasNoPath (unasked_steps h target) l start → IsChain h (any_sought target) start w →
-          IsWay h target h.least start w
-      way-added added unasked is = way-with counted.Any tt tt is
-          (λ ts leading. costs-own h added w.password (password_along h user start ts)
-          (easiest-of h target l start password.Own start-state unasked ts leading))
-
-    -- no chain asks for nobody else's, where the user is not marked
-    pub none-marked :
-        (chains : Chains) (t : Turning) → ChainsLead h target l chains →
-        TurningLeads h target l chains.any_starts.items chains.unasked.items t → HasNoPath (unasked_steps h target) l start →
-        get_or t.near.items user true ≡ false → (user ≡ target → ⊥) → HasNoPath (own_steps h target user) l start
-    none-marked chains t lead turning unasked far away =
-        own-none h target user l enough chains.any_starts.items chains.unasked.items t.near.items
-        (starts-chainless h target l chains.any.items chains.any_starts.items lead.any lead.are.any_starts lead.are.any_users)
-        lead.unasked turning.near far away ((host-keeps h).starts user known) unasked
-
-    -- nor where no step leads to where a chain may turn
-    pub none-turning :
-        (chains : Chains) (t : Turning) → ChainsLead h target l chains →
-        TurningLeads h target l chains.any_starts.items chains.unasked.items t → HasNoPath (unasked_steps h target) l start →
-        get_or t.wanted.items user true ≡ true → AreUnentered h l user (map (λ c. c.now) t.asking.items) t.near_states.items →
-        (user ≡ target → ⊥) → HasNoPath (own_steps h target user) l start
-    none-turning chains t lead turning unasked marks unentered away =
-        unentered-none h target user l enough chains.any_starts.items chains.unasked.items t.near_states.items t.wanted.items
-        (map (λ c. c.now) t.asking.items)
-        (starts-chainless h target l chains.any.items chains.any_starts.items lead.any lead.are.any_starts lead.are.any_users)
-        lead.unasked turning.near_states marks turning.asking unentered away ((host-keeps h).starts user known) unasked
+      way-any each is = way-with counted.Any is (λ ts leading.
+          let most = asks-most counted.Any is in
+          let more = each ts leading in
+          omega (arith, most, more))
 
 -- ---- From level to level
 

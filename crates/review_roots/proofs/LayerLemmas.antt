@@ -20,8 +20,8 @@ use Rattle.review_roots.specs.declared.search.Found.{Found}
 use Rattle.review_roots.specs.declared.search.Sought.{Sought}
 use Rattle.review_roots.specs.declared.state.State.{State}
 use Rattle.review_roots.specs.Body.Candidates.{states_of}
-use Rattle.review_roots.specs.Body.Found.{AreDeep, AreFirst, AreGiven, AreLinked, AreOrdered, AreSorted, IsCandidate, IsDrawn}
-use Rattle.review_roots.specs.Body.Found.{IsFound, IsGiven}
+use Rattle.review_roots.specs.Body.Found.{AreDeep, AreFirst, AreGiven, AreLinked, AreOrdered, AreRising, AreSorted, IsCandidate}
+use Rattle.review_roots.specs.Body.Found.{IsDrawn, IsFound, IsGiven}
 use Rattle.review_roots.specs.Body.Found.{IsLinked, IsSearch, IsStuck, aim_of, aims_at, aims_from, first_of, found_by, found_states}
 use Rattle.review_roots.specs.Body.Found.{kept_steps, reaches}
 use Rattle.review_roots.specs.Chains.{Steps, Path, here, more}
@@ -185,14 +185,14 @@ not-picked (Some y) e = cc
 -- ---- All aims of a layer
 
 -- the candidate is found by its first step to one of the found states from the n-th on
-record IsFresh (h : HostSteps) (q : Sought) (l : Level) (n : ℕ) (found : List Found) (c : Candidate) (f : Found) : Type 0 where
-  at : ℕ
-  aim : Found
-  from : n ≤ at
-  there : slice_get found at ≡ Some aim
-  is : f ≡ record { state = c.state; steps = aim.steps + 1; next = Some at; given = step_on h c.state aim.state }
-  step : is_at_least l ((kept_steps h q).level c.state aim.state) ≡ true
-  first : (k : ℕ) (e : Found) → n ≤ k → k < at → slice_get found k ≡ Some e
+pub record IsFresh (h : HostSteps) (q : Sought) (l : Level) (n : ℕ) (found : List Found) (c : Candidate) (f : Found) : Type 0 where
+  pub at : ℕ
+  pub aim : Found
+  pub from : n ≤ at
+  pub there : slice_get found at ≡ Some aim
+  pub is : f ≡ record { state = c.state; steps = aim.steps + 1; next = Some at; given = step_on h c.state aim.state }
+  pub step : is_at_least l ((kept_steps h q).level c.state aim.state) ≡ true
+  pub first : (k : ℕ) (e : Found) → n ≤ k → k < at → slice_get found k ≡ Some e
       → is_at_least l ((kept_steps h q).level c.state e.state) ≡ false
 
 module _ (h : HostSteps) (q : Sought) (l : Level) (n : ℕ) (found : List Found) where
@@ -213,7 +213,7 @@ module _ (h : HostSteps) (q : Sought) (l : Level) (n : ℕ) (found : List Found)
       → is_at_least l (g.level c.state e.state) ≡ false
   pick-none c none k e from at = first-none h (aims_at q l n found) c none (k - n) (aim_of q l k e) (aim-there k e from at)
 
-  pick-some : (c : Candidate) (f : Found) → pick c ≡ Some f → IsFresh h q l n found c f
+  pub pick-some : (c : Candidate) (f : Found) → pick c ≡ Some f → IsFresh h q l n found c f
   pick-some c f is = go (first-some h (aims_at q l n found) c f is)
     where
       go : IsFirstAim h (aims_at q l n found) c f → IsFresh h q l n found c f
@@ -451,6 +451,26 @@ module _ (h : HostSteps) (q : Sought) (least l : Level) (n : ℕ) (found : List 
               sym (slice_get-append-left found fresh k (omega (arith, less, back, w))) ∙ at_k
       go (inr (j, (is_i, there))) = new (of-fresh f (at-contains fresh f j there))
 
+  grown-rising : AreRising grown
+  grown-rising i k f e less at_i at_k = go (get-append-split found fresh i f at_i) (get-append-split found fresh k e at_k)
+    where
+      Split : ℕ → Found → Type 0
+      Split i f = (slice_get found i ≡ Some f) ⊎ ((k : ℕ) × ((i ≡ length found + k) × (slice_get fresh k ≡ Some f)))
+
+      go : Split i f → Split k e → f.steps ≤ e.steps
+      go (inl old) (inl old') = search.rising i k f e less old old'
+      go (inl old) (inr (j, (is, there))) =
+          let w = slice_get_within found i f old in
+          let few = grown-before i f w at_i in
+          let deep = fresh-steps e (of-fresh e (at-contains fresh e j there)) in
+          omega (arith, few, deep)
+      go (inr (j, (is, there))) (inl old') =
+          let w = slice_get_within found k e old' in absurd (omega (arith, w, is, less))
+      go (inr (j, (is, there))) (inr (j', (is', there'))) =
+          let one = fresh-steps f (of-fresh f (at-contains fresh f j there)) in
+          let other = fresh-steps e (of-fresh e (at-contains fresh e j' there')) in
+          omega (arith, one, other)
+
   fresh-order : IsInOrder h.directory.now (found_states fresh)
   fresh-order =
       picked-order h.directory.now (λ (c : Candidate). c.state) (λ (f : Found). f.state) picks
@@ -490,6 +510,7 @@ module _ (h : HostSteps) (q : Sought) (least l : Level) (n : ℕ) (found : List 
     before = grown-before;
     after = grown-after;
     first = grown-first;
+    rising = grown-rising;
     sorted = grown-sorted;
     waiting = kept-order h.directory.now (λ (c : Candidate). c.state) (λ c. not (is_some (picks c))) cs search.waiting;
   }
@@ -515,7 +536,7 @@ module _ (h : HostSteps) (q : Sought) (l : Level) (n : ℕ) (found new : List Fo
       (subst (λ xs. IsSearch h.directory.now (kept_steps h q) k l (length found) (found ++ filter_map ones cs) (states_of xs)) (sym keeps)
       (layer-search h q k l n found cs search))
 
-  of-new : (f : Found) → Contains (filter_map ones cs) f → (c : Candidate) × IsFresh h q l n found c f
+  pub of-new : (f : Found) → Contains (filter_map ones cs) f → (c : Candidate) × IsFresh h q l n found c f
   of-new f inside = let c = from-picked ones cs f inside in (c.0, pick-some h q l n found c.0 f c.1.1)
 
   -- no chain has more steps than states were found before
@@ -573,5 +594,6 @@ pub ordered-found :
 ordered-found h q least l n found left search = record {
   kept = All-weaker (IsFound (kept_steps h q) l) (λ f. Contains h.states.now f.state) (λ f is. is.inside) found search.right;
   first = search.first;
+  rising = search.rising;
   sorted = search.sorted;
 }

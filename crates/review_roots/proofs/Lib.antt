@@ -21,7 +21,6 @@ pub mod RootLemmas
 pub mod LoopLemmas
 pub mod FreeLemmas
 pub mod EaseLemmas
-pub mod OwnLemmas
 pub mod GroupLemmas
 pub mod RowLemmas
 pub mod ChainLemmas
@@ -38,4 +37,4 @@ pub mod NamingLemmas
 pub mod NoteLemmas
 pub mod MayLemmas
 pub mod PathLemmas
-pub mod NearLemmas
+pub mod TurnedLemmas

@@ -90,9 +90,9 @@ module _ (h : HostSteps) (c : Candidate) (is : IsCandidate h c) where
       (one a : Aimed) → IsAimed h one → IsAimed h a → AreLike one a.aim (any_toward a.toward) → (c.state.user == a.aim.state.user) ≡ false →
       reaches h one.aim c ≡ false → reaches h a.aim c ≡ false
   like-unreached one a one_aimed aimed like apart none =
-      ap (λ l. is_at_least l (level_for a.aim.counted c.state.user (step_on h c.state a.aim.state))) (sym like.level)
-      ∙ ap (λ k. is_at_least one.aim.level (level_for k c.state.user (step_on h c.state a.aim.state))) (sym like.counted)
-      ∙ ap (λ g. is_at_least one.aim.level (level_for one.aim.counted c.state.user g))
+      ap (λ l. is_at_least l (level_for a.aim.counted (step_on h c.state a.aim.state))) (sym like.level)
+      ∙ ap (λ k. is_at_least one.aim.level (level_for k (step_on h c.state a.aim.state))) (sym like.counted)
+      ∙ ap (λ g. is_at_least one.aim.level (level_for one.aim.counted g))
       (like-steps a.aim.state one.aim.state (any_toward a.toward) (any_toward one.toward) aimed.toward one_aimed.toward like.user
       like.allowed apart)
       ∙ none

@@ -31,14 +31,14 @@ use Rattle.review_roots.specs.Body.Candidates.{part_at}
 use Rattle.review_roots.specs.Body.Found.{PointBack, AreFound, AreGiven, AreOrdered, IsCandidate, IsFound, found_states}
 use Rattle.review_roots.specs.Sought.{steps_of}
 use Rattle.review_roots.specs.Chains.{Steps}
-use Rattle.review_roots.specs.Ways.{IsChain, step_password, worse}
+use Rattle.review_roots.specs.Ways.{IsChain, first_row, marks_along, password_along, step_password, worse}
 use Rattle.review_roots.proofs.FirstLemmas.{first-along}
 use Rattle.review_roots.proofs.GivenLemmas.{blocks_give}
 use Rattle.review_roots.proofs.IndexLemmas.{answer-at, parts-are}
 use Rattle.review_roots.proofs.SearchLemmas.{from-map, to-map}
 use Rattle.review_grants.specs.declared.marks.Marks.{Marks}
 use Rattle.review_grants.specs.Depends.{joined_marks}
-use Rattle.review_roots.specs.Body.Passing.{HasMarks, HasPassword, HasRow, IsAlong, LeadsWhole}
+use Rattle.review_roots.specs.Body.Passing.{HasMarks, HasPassword, HasRow, IsAlong, IsTraced, LeadsWhole}
 use Rattle.review_roots.proofs.WayLemmas.{AsksSoFar, LeadsSoFar, MarksSoFar, RowSoFar, asks-all, asks-more, leads-more, leads-all}
 use Rattle.review_roots.proofs.WayLemmas.{marks-all, marks-more, row-all, row-more}
 
@@ -220,3 +220,34 @@ way-is h q l found index d f chain password marks are order given inside at lead
   where
     this : get_or found index d ≡ f
     this = let e : Some (get_or found index d) ≡ Some f = sym (there found index d inside) ∙ at in cc
+
+-- what a chain that is traced has
+pub traced-is :
+    (h : HostSteps) (l : Level) (found : List Found) (index : ℕ) (d : Found) (chain : Vec State Global) (password : Password)
+    (marks : Marks) → AreGiven h found → index < length found → LeadsWhole found index chain.items → IsAlong found index chain.items →
+    All (Contains (found_states found)) chain.items → HasRow found index chain.items →
+    HasPassword found (get_or found index d).state.user index chain.items password → HasMarks found index chain.items marks →
+    IsTraced h found index (record {
+      level = l;
+      chain = chain;
+      by = (get_or found index d).given.by;
+      password = password;
+      marks = marks;
+    })
+traced-is h l found index d chain password marks given inside leads along within row asks depends = record {
+  along = along;
+  leads = leads;
+  inside = within;
+  row = λ f at.
+      subst (λ (e : Found). (get_or found index d).given.by ≡ first_row h e.state chain.items) (same f at)
+      (row h (get_or found index d) given (there found index d inside));
+  password = λ f at.
+      subst (λ (e : Found). password ≡ password_along h e.state.user e.state chain.items) (same f at)
+      (asks h (get_or found index d) given (there found index d inside));
+  marks = λ f at.
+      subst (λ (e : Found). marks ≡ marks_along h e.state chain.items) (same f at)
+      (depends h (get_or found index d) given (there found index d inside));
+}
+  where
+    same : (f : Found) → slice_get found index ≡ Some f → get_or found index d ≡ f
+    same f at = let e : Some (get_or found index d) ≡ Some f = sym (there found index d inside) ∙ at in cc

@@ -1,5 +1,5 @@
 -- What rows give is at most what they may give at best.
-use Rattle.std.proofs.Common.{◌≡◌, ◌∙◌, ◌+◌, ℕ, Bool, true, false, cond, ◌&&◌, ◌||◌, ◌==◌}
+use Rattle.std.proofs.Common.{◌≡◌, ◌∙◌, ◌+◌, ℕ, Bool, true, false, cond, ◌&&◌, ◌||◌}
 use Rattle.std.proofs.Common.{List, [], ◌∷◌, ◌++◌, ap, append_assoc, arith, flat_map}
 use Rattle.std.proofs.Common.{fold, length, length-append, refl, subst, sym, Option, Some, None, option_copied}
 use Rattle.std.specs.Prelude.{is_some, slice_get}
@@ -38,7 +38,6 @@ use Rattle.review_roots.proofs.EffectLemmas.{block-gives, level-by-effect}
 use Rattle.review_roots.proofs.GivenLemmas.{blocks_give}
 use Rattle.review_roots.proofs.IndexLemmas.{answer-at, item-behind}
 use Rattle.review_roots.proofs.SearchLemmas.{at-least-below, at-least-itself, at-least-trans}
-use Rattle.review_roots.proofs.MemberLemmas.{neither}
 use Rattle.review_roots.proofs.WeakLemmas.{below-not, not-at-least}
 
 -- ---- A better level stays one behind a row
@@ -259,23 +258,18 @@ may-are on l T bs same = may-from on l T bs same bs [] 0 refl refl may_nothing
 
 -- ---- A step that counts
 
-pub level-within : (k : Counted) (user : ℕ) (a : Given) (m : May) → IsWithin a m → is_at_least (level_for k user a) (may_for k m) ≡ true
-level-within counted.Any user a m within = within.level
-level-within counted.Unasked user a m within = go a.unasked refl
+pub level-within : (k : Counted) (a : Given) (m : May) → IsWithin a m → is_at_least (level_for k a) (may_for k m) ≡ true
+level-within counted.Any a m within = within.level
+level-within counted.Unasked a m within = go a.unasked refl
   where
     go : (b : Bool) → a.unasked ≡ b → is_at_least (cond b a.level level.None) m.unasked ≡ true
     go true e = within.unasked e
     go false e = at-least-below level.None m.unasked (omega arith)
-level-within counted.Free user a m within = go a.free refl
+level-within counted.Free a m within = go a.free refl
   where
     go : (b : Bool) → a.free ≡ b → is_at_least (cond b a.level level.None) (cond m.free m.level level.None) ≡ true
     go true e = ap (λ c. is_at_least a.level (cond c m.level level.None)) (within.free e) ∙ within.level
     go false e = at-least-below level.None (cond m.free m.level level.None) (omega arith)
-level-within (counted.Own owner) user a m within = go ((user == owner) || a.unasked)
-  where
-    go : (b : Bool) → is_at_least (cond b a.level level.None) m.level ≡ true
-    go true = within.level
-    go false = at-least-below level.None m.level (omega arith)
 
 -- ---- A candidate of which no step that counts may have the least level
 
@@ -328,27 +322,20 @@ module _ (h : HostSteps) (c : Candidate) (is : IsCandidate h c) where
       (given_alone h.checked.now h.directory.now h.host.now c.person v g) most (asked-within (Some v) g) (alone-within v g)
 
   unreached :
-      (k : Counted) (l : Level) (user : ℕ) → may_reach h.on.items h.blocks.now h.least k c.listed.items ≡ false →
+      (k : Counted) (l : Level) → may_reach h.on.items h.blocks.now h.least k c.listed.items ≡ false →
       is_at_least h.least l ≡ true → (v : Option Person) (g : Option Group) →
-      is_at_least l (level_for k user (given_between h.checked.now h.directory.now h.host.now (Some c.person) v g)) ≡ false
-  unreached k l user none above v g =
+      is_at_least l (level_for k (given_between h.checked.now h.directory.now h.host.now (Some c.person) v g)) ≡ false
+  unreached k l none above v g =
       let a = given_between h.checked.now h.directory.now h.host.now (Some c.person) v g in
       let less = not-at-least h.least (may_for k most) none in
       let up = leb-true (rank h.least) (rank l) above in
-      let below = leb-true (rank (level_for k user a)) (rank (may_for k most)) (level-within k user a most (between-within v g)) in
-      below-not l (level_for k user a) (omega (arith, less, up, below))
-
-  abbrev given : Option Person → Option Group → Given
-  given v g = given_between h.checked.now h.directory.now h.host.now (Some c.person) v g
+      let below = leb-true (rank (level_for k a)) (rank (may_for k most)) (level-within k a most (between-within v g)) in
+      below-not l (level_for k a) (omega (arith, less, up, below))
 
   pub uncounted :
-      (k : Counted) (l : Level) (user : ℕ) → may_count h.on.items h.blocks.now h.least k user c.listed.items ≡ false →
+      (k : Counted) (l : Level) → may_count h.on.items h.blocks.now h.least k c.listed.items ≡ false →
       is_at_least h.least l ≡ true → (v : Option Person) (g : Option Group) →
-      is_at_least l (level_for k user (given_between h.checked.now h.directory.now h.host.now (Some c.person) v g)) ≡ false
-  uncounted counted.Any l user none above v g = cc
-  uncounted counted.Unasked l user none above v g = unreached counted.Unasked l user none above v g
-  uncounted counted.Free l user none above v g = unreached counted.Free l user none above v g
-  uncounted (counted.Own owner) l user none above v g =
-      let both = neither (user == owner) (may_reach h.on.items h.blocks.now h.least counted.Unasked c.listed.items) none in
-      ap (λ b. is_at_least l (cond (b || (given v g).unasked) (given v g).level level.None)) both.0
-      ∙ unreached counted.Unasked l user both.1 above v g
+      is_at_least l (level_for k (given_between h.checked.now h.directory.now h.host.now (Some c.person) v g)) ≡ false
+  uncounted counted.Any l none above v g = cc
+  uncounted counted.Unasked l none above v g = unreached counted.Unasked l none above v g
+  uncounted counted.Free l none above v g = unreached counted.Free l none above v g

@@ -21,9 +21,11 @@ use Rattle.std.proofs.lemmas.List.Elements.{All-contains, Contains-append_left, 
 use Rattle.std.proofs.lemmas.List.Sorted.{Contains-permutation, IsPermutation-sym, ranks_by, sorted_far}
 use Rattle.std.proofs.lemmas.Option.{slice_get_within}
 use Rattle.std.proofs.lemmas.Slice.Eq.{bytes_eq-Decides}
+use Rattle.sudo_match.specs.declared.people.Group.{Group}
 use Rattle.sudo_match.specs.declared.people.Person.{Person}
 use Rattle.sudo_match.specs.KnownRows.{KnownRows, directory_fault}
 use Rattle.review_roots.specs.declared.state.State.{State}
+use Rattle.review_roots.specs.AddableGroups.{group_cmp}
 use Rattle.review_roots.specs.Order.{person_name, state_cmp, user_name}
 use Rattle.review_roots.specs.Order.{IsInOrder}
 use Rattle.review_roots.specs.Body.Candidates.{has_state}
@@ -38,6 +40,10 @@ pub state-total : (d : KnownRows) → IsTotalOrder (state_cmp d)
 state-total d =
     then_total (on_total (λ (s : State). user_name d s.user) nat_list_cmp_total)
     (on_total (λ (s : State). s.added) (options_total nat_cmp_total))
+
+pub group-total : IsTotalOrder group_cmp
+group-total =
+    then_total (on_total (λ (g : Group). g.name) nat_list_cmp_total) (on_total (λ (g : Group). g.gid) nat_cmp_total)
 
 pub behind-itself : (d : KnownRows) (s : State) → is_gt (state_cmp d s s) ≡ false
 behind-itself d s = ap is_gt (tied_itself (state-total d) s)
@@ -262,32 +268,32 @@ moved-has xs ys moved s =
     (λ e. in-has ys s (Contains-permutation xs ys s moved (has-in xs s e)))
     (λ e. in-has xs s (Contains-permutation ys xs s (IsPermutation-sym xs ys moved) (has-in ys s e)))
 
--- what a sort by the order leaves is in order
-pub sorted-order : (d : KnownRows) (ss : List State) → IsSortedBy (λ s t. is_lt (state_cmp d s t)) ss → IsInOrder d ss
-sorted-order d ss up = each
-  where
-    at : (xs : List State) (i : ℕ) (s e : State) → slice_get xs i ≡ Some s → get_or xs i e ≡ s
-    at [] i s e is = cc
-    at (x ∷ xs) zero s e is = cc
-    at (x ∷ xs) (suc i) s e is = at xs i s e is
+module _ {X : Type 0} (cmp : X → X → Ordering) (total : IsTotalOrder cmp) where
+  -- what a sort by an order leaves is in order
+  pub sorted-order :
+      (xs : List X) → IsSortedBy (λ x y. is_lt (cmp x y)) xs →
+      (i k : ℕ) (x y : X) → i < k → slice_get xs i ≡ Some x → slice_get xs k ≡ Some y → is_gt (cmp x y) ≡ false
+  sorted-order xs up i k x y less at_x at_y =
+      let far = sorted_far (λ x y. is_lt (cmp x y)) (ranks_by total (λ x. x)) xs up i k x (omega (arith, less))
+      (slice_get_within xs k y at_y) in
+      ap is_gt (total.antisymm x y) ∙ less-turned (cmp y x)
+      ∙ sym (ap (λ z. is_lt (cmp z (get_or xs i x))) (at xs k y x at_y) ∙ ap (λ z. is_lt (cmp y z)) (at xs i x x at_x))
+      ∙ far
+    where
+      at : (xs : List X) (i : ℕ) (x e : X) → slice_get xs i ≡ Some x → get_or xs i e ≡ x
+      at [] i x e is = cc
+      at (y ∷ ys) zero x e is = cc
+      at (y ∷ ys) (suc i) x e is = at ys i x e is
 
-    each : (i k : ℕ) (s t : State) → i < k → slice_get ss i ≡ Some s → slice_get ss k ≡ Some t → is_gt (state_cmp d s t) ≡ false
-    each i k s t less at_s at_t =
-        let far = sorted_far (λ s t. is_lt (state_cmp d s t)) (ranks_by (state-total d) (λ s. s)) ss up i k s (omega (arith, less))
-        (slice_get_within ss k t at_t) in
-        ap is_gt ((state-total d).antisymm s t) ∙ less-turned (state_cmp d t s)
-        ∙ sym (ap (λ u. is_lt (state_cmp d u (get_or ss i s))) (at ss k t s at_t) ∙ ap (λ u. is_lt (state_cmp d t u)) (at ss i s s at_s))
-        ∙ far
-
--- the same of a sort whose calls compare two states
-pub sorted-by-calls :
-    {F : Type 0} {g : Mut F (Bor State × (Bor State × Unit {0})) Ordering} {f : F} (d : KnownRows) (ss : List State) →
-    ((lt : State → State → Bool) → IsStrictWeakOrder lt → ComparesAs g lt f → IsSortedBy lt ss) →
-    ((a : Bor State × (Bor State × Unit {0})) (r : Ordering) (f' : F) → Called g f a r f'
-    → (r ≡ state_cmp d a.0.now a.1.0.now) × (f' ≡ f)) →
-    IsInOrder d ss
-sorted-by-calls {g = g} {f = f} d ss up calls =
-    sorted-order d ss
-    (up (λ s t. is_lt (state_cmp d s t)) (ranks_by (state-total d) (λ s. s))
-    (always_returns_same g (λ a r. is_lt r ≡ is_lt (state_cmp d a.0.now a.1.0.now)) f
-    (λ a r f' call. (ap is_lt (calls a r f' call).0, (calls a r f' call).1))))
+  -- the same of a sort whose calls compare two items
+  pub sorted-by-calls :
+      {F : Type 0} {g : Mut F (Bor X × (Bor X × Unit {0})) Ordering} {f : F} (xs : List X) →
+      ((lt : X → X → Bool) → IsStrictWeakOrder lt → ComparesAs g lt f → IsSortedBy lt xs) →
+      ((a : Bor X × (Bor X × Unit {0})) (r : Ordering) (f' : F) → Called g f a r f'
+      → (r ≡ cmp a.0.now a.1.0.now) × (f' ≡ f)) →
+      (i k : ℕ) (x y : X) → i < k → slice_get xs i ≡ Some x → slice_get xs k ≡ Some y → is_gt (cmp x y) ≡ false
+  sorted-by-calls {g = g} {f = f} xs up calls =
+      sorted-order xs
+      (up (λ x y. is_lt (cmp x y)) (ranks_by total (λ x. x))
+      (always_returns_same g (λ a r. is_lt r ≡ is_lt (cmp a.0.now a.1.0.now)) f
+      (λ a r f' call. (ap is_lt (calls a r f' call).0, (calls a r f' call).1))))

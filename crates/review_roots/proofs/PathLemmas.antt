@@ -17,16 +17,15 @@ use Rattle.review_roots.specs.declared.level.Level.{Level}
 use Rattle.review_roots.specs.declared.search.Found.{Found}
 use Rattle.review_roots.specs.declared.search.Sought.{Sought}
 use Rattle.review_roots.specs.declared.state.State.{State}
-use Rattle.review_roots.specs.Asked.{nothing}
 use Rattle.review_roots.specs.Body.Found.{AreFound, AreStarts, HaveNoChain, IsComplete, IsFound, IsFoundAt, IsLinked}
-use Rattle.review_roots.specs.Body.Found.{any_sought, found_states, is_start, kept_steps}
+use Rattle.review_roots.specs.Body.Found.{any_sought, found_states, kept_steps}
 use Rattle.review_roots.specs.Body.Kept.{AreAlike, AreBothUnnamed, AreKept, IsAlike}
 use Rattle.review_roots.specs.Body.Unnamed.{is_unnamed}
 use Rattle.review_roots.specs.Chains.{Steps, Path, here, more, HasNoPath}
 use Rattle.review_roots.specs.Order.{state_cmp}
 use Rattle.review_roots.specs.Ranks.{is_at_least}
 use Rattle.review_roots.specs.Sought.{any_steps, steps_of}
-use Rattle.review_roots.specs.States.{given_between, group_at, level_for, state_with, with_added}
+use Rattle.review_roots.specs.States.{given_between, group_at, is_start, level_for, state_with, with_added}
 use Rattle.review_roots.proofs.AlikeLemmas.{IsWithin, has-more, towards-same}
 use Rattle.review_roots.proofs.KeptLemmas.{host-keeps}
 use Rattle.review_roots.proofs.RootLemmas.{not-found}
@@ -212,7 +211,7 @@ module _ (h : HostSteps) (q : Sought) (known : directory_fault h.directory.now.p
   -- the level of the step of one user to another, with the added groups of these states
   abbrev level-with : State → State → Option Person → Option Person → Level
   level-with s t u v =
-      level_for q.counted s.user
+      level_for q.counted
       (given_between h.checked.now h.directory.now h.host.now (option_map (λ x. with_added x (added s)) u) v (added t))
 
   -- steps between states that are alike are the same, but for one between two that are alike to one another
@@ -232,9 +231,7 @@ module _ (h : HostSteps) (q : Sought) (known : directory_fault h.directory.now.p
           (is_same_user v u ≡ true → has_asked (with_added u (added s)) (added t) ≡ has_asked (with_added u (added s')) (added t')) →
           level-with s t (Some u) (Some v) ≡ level-with s' t' (Some u) (Some v)
       given u v is at own =
-          ap (λ user. level_for q.counted user
-          (given_between h.checked.now h.directory.now h.host.now (Some (with_added u (added s))) (Some v) (added t))) from.0
-          ∙ ap (level_for q.counted s'.user)
+          ap (level_for q.counted)
           (towards-same h.checked.now h.directory.now h.host.now h.groups.now keeps.ids keeps.unnamed u v (added s) (added s') (added t)
           (added t') (from.1 u is) (to.1 v at) (within s.added) (within s'.added) (within t.added) (within t'.added) own)
 
@@ -264,8 +261,8 @@ module _ (h : HostSteps) (q : Sought) (known : directory_fault h.directory.now.p
 
       go : (u : Option Person) → slice_get people s.user ≡ u → (v : Option Person) → slice_get people t.user ≡ v
           → Alike s t ⊎ (g.level s t ≡ g.level s' t')
-      go None is v at = inr (carried None v is at (ap (λ user. level_for q.counted user nothing) from.0))
-      go (Some u) is None at = inr (carried (Some u) None is at (ap (λ user. level_for q.counted user nothing) from.0))
+      go None is v at = inr (carried None v is at refl)
+      go (Some u) is None at = inr (carried (Some u) None is at refl)
       go (Some u) is (Some v) at = both u v is at
 
   pub alike-turn : (s t t' : State) → Alike s t → Alike s t' → Alike t t'

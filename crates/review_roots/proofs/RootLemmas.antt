@@ -15,8 +15,8 @@ use Rattle.review_roots.specs.declared.roots.Root.{Root}
 use Rattle.review_roots.specs.declared.search.Found.{Found}
 use Rattle.review_roots.specs.declared.state.State.{State}
 use Rattle.review_roots.specs.Chains.{HasNoPath, Steps}
-use Rattle.review_roots.specs.Body.Found.{AreFound, found_states, is_start}
-use Rattle.review_roots.specs.States.{all_states, states_with, state_with}
+use Rattle.review_roots.specs.Body.Found.{AreFound, found_states}
+use Rattle.review_roots.specs.States.{all_states, is_start, state_with, states_with}
 use Rattle.review_roots.specs.Roots.{AreRoots, IsRoot, IsNoRoot, IsIncreasing, has_zero, is_itself}
 use Rattle.review_roots.proofs.SearchLemmas.{from-map, to-map}
 

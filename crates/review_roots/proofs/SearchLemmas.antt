@@ -175,6 +175,7 @@ search-end d g least l n found left search end = record {
   before = λ i f within at. shallow i f at (cases_lt i n);
   after = λ i f from at. let within = slice_get_within found i f at in absurd (omega (arith, within, from));
   first = search.first;
+  rising = search.rising;
   sorted = search.sorted;
   waiting = search.waiting;
 }

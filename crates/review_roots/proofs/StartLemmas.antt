@@ -1,5 +1,5 @@
 -- What a search begins with: the states at the goal, and the candidates that are heard; from no other does a step lead.
-use Rattle.std.proofs.Common.{◌≡◌, ◌∙◌, ℕ, zero, Bool, true, false, not, cond, ◌&&◌, ◌||◌, ◌==◌, List, [], ◌∷◌, ap, arith, refl}
+use Rattle.std.proofs.Common.{◌≡◌, ◌∙◌, ℕ, zero, Bool, true, false, not, cond, ◌&&◌, ◌==◌, List, [], ◌∷◌, ap, arith, refl}
 use Rattle.std.proofs.Common.{length, map, sym, subst, Option, Some, None, inl, inr, ◌⊎◌}
 use Rattle.std.specs.Prelude.{All, filter, is_some, slice_get}
 use Rattle.std.specs.List.{Contains, list_any, slice_index_or}
@@ -77,25 +77,25 @@ module _ (h : HostSteps) (q : Sought) (k : Level) (asked : is_at_least h.least k
       g.goal s ≡ false → IsMute g h.least s
   quiet-mute s u is none away = (
     away,
-    λ t l above. ap (λ o. is_at_least l (level_for q.counted s.user
+    λ t l above. ap (λ o. is_at_least l (level_for q.counted
         (given_between h.checked.now h.directory.now h.host.now o (slice_get h.directory.now.people t.user)
         (group_at h.groups.now t.added)))) is
         ∙ weak-level h.least
         (given_between h.checked.now h.directory.now h.host.now (Some u) (slice_get h.directory.now.people t.user)
         (group_at h.groups.now t.added)) h.listed
         (quiet-between h.checked.now h.directory.now h.host.now h.least u h.blocks.now h.tied h.listed none
-        (slice_get h.directory.now.people t.user) (group_at h.groups.now t.added)) q.counted l s.user above,
+        (slice_get h.directory.now.people t.user) (group_at h.groups.now t.added)) q.counted l above,
   )
 
   unknown-mute : (s : State) → person_of h.directory.now h.groups.now s ≡ None → g.goal s ≡ false → IsMute g h.least s
   unknown-mute s none away = (
     away,
-    λ t l above. ap (λ o. is_at_least l (level_for q.counted s.user
+    λ t l above. ap (λ o. is_at_least l (level_for q.counted
         (given_between h.checked.now h.directory.now h.host.now o (slice_get h.directory.now.people t.user)
         (group_at h.groups.now t.added)))) none
         ∙ weak-level h.least
         (given_between h.checked.now h.directory.now h.host.now None (slice_get h.directory.now.people t.user)
-        (group_at h.groups.now t.added)) h.listed (weak-nothing h.least h.listed) q.counted l s.user above,
+        (group_at h.groups.now t.added)) h.listed (weak-nothing h.least h.listed) q.counted l above,
   )
 
   silent-mute :
@@ -121,14 +121,14 @@ module _ (h : HostSteps) (q : Sought) (k : Level) (asked : is_at_least h.least k
       ∙ sym (ap (list_any (λ i. slice_index_or h.on.items i false)) is.strong) ∙ none) away
 
   no-step-counts :
-      (c : Candidate) → IsCandidate h c → may_count h.on.items h.blocks.now h.least q.counted c.state.user c.listed.items ≡ false →
+      (c : Candidate) → IsCandidate h c → may_count h.on.items h.blocks.now h.least q.counted c.listed.items ≡ false →
       g.goal c.state ≡ false → IsMute g h.least c.state
   no-step-counts c is none away = (
     away,
-    λ t l above. ap (λ o. is_at_least l (level_for q.counted c.state.user
+    λ t l above. ap (λ o. is_at_least l (level_for q.counted
         (given_between h.checked.now h.directory.now h.host.now o (slice_get h.directory.now.people t.user)
         (group_at h.groups.now t.added)))) is.person
-        ∙ uncounted h c is q.counted l c.state.user none above (slice_get h.directory.now.people t.user) (group_at h.groups.now t.added),
+        ∙ uncounted h c is q.counted l none above (slice_get h.directory.now.people t.user) (group_at h.groups.now t.added),
   )
 
   mute-stuck : (s : State) → IsMute g h.least s → IsStuck g k s
@@ -143,9 +143,9 @@ module _ (h : HostSteps) (q : Sought) (k : Level) (asked : is_at_least h.least k
   -- ---- No chain of the steps that count leads from a user with no chain of any steps
 
   counted-any :
-      (l : Level) (c : Counted) (user : ℕ) (a : Given) → is_at_least k l ≡ true → is_at_least l (level_for c user a) ≡ true →
+      (l : Level) (c : Counted) (a : Given) → is_at_least k l ≡ true → is_at_least l (level_for c a) ≡ true →
       is_at_least k a.level ≡ true
-  counted-any l c user a above step = go c step
+  counted-any l c a above step = go c step
     where
       either : (b : Bool) → is_at_least l (cond b a.level level.None) ≡ true → is_at_least k a.level ≡ true
       either true step = at-least-trans k l a.level above step
@@ -153,18 +153,17 @@ module _ (h : HostSteps) (q : Sought) (k : Level) (asked : is_at_least h.least k
           at-least-trans k level.None a.level (at-least-trans k l level.None above step)
           (at-least-below level.None a.level (omega arith))
 
-      go : (c : Counted) → is_at_least l (level_for c user a) ≡ true → is_at_least k a.level ≡ true
+      go : (c : Counted) → is_at_least l (level_for c a) ≡ true → is_at_least k a.level ≡ true
       go counted.Any step = at-least-trans k l a.level above step
       go counted.Unasked step = either a.unasked step
       go counted.Free step = either a.free step
-      go (counted.Own owner) step = either ((user == owner) || a.unasked) step
 
   any-path : (l : Level) → is_at_least k l ≡ true → {n : ℕ} {s : State} → Path g l n s → Path (any_steps h q.target) k n s
   any-path l above (here {s} c at) =
       here (All-contains (Contains (any_steps h q.target).states) h.states.now s (host-keeps h).inside c) at
   any-path l above (more {n} {s} {t} c step rest) =
       more (All-contains (Contains (any_steps h q.target).states) h.states.now s (host-keeps h).inside c)
-      (counted-any l q.counted s.user (step_given h.checked.now h.directory.now h.host.now h.groups.now s t) above step)
+      (counted-any l q.counted (step_given h.checked.now h.directory.now h.host.now h.groups.now s t) above step)
       (any-path l above rest)
 
   chainless-stuck : (s : State) → HasNoPath (any_steps h q.target) k s → IsStuck g k s
@@ -251,7 +250,7 @@ module _ (h : HostSteps) (q : Sought) (k : Level) (asked : is_at_least h.least k
           inr (inr (subst (IsStuck g k) at (mute-stuck c.state
           (no-step-counts c (All-contains (IsCandidate h) h.candidates.now c h.covered.known inside)
           (neither ((length h.groups.now == 0) && is_at_least level.AllBut h.least)
-          (may_count h.on.items h.blocks.now h.least q.counted c.state.user c.listed.items) may).1
+          (may_count h.on.items h.blocks.now h.least q.counted c.listed.items) may).1
           (ap g.goal at ∙ away)))))
       by_candidate s c inside at away false is n may true begins =
           inr (inr (subst (IsStuck g k) at (mute-stuck c.state
@@ -292,6 +291,7 @@ module _ (h : HostSteps) (q : Sought) (k : Level) (asked : is_at_least h.least k
     before = λ i f less at. absurd (omega (arith, less));
     after = λ i f from at. (goal_at i f at).0;
     first = λ i next j f e at is less at_j. absurd (let end = (goal_at i f at).1.0 in let bad : Some next ≡ None = sym is ∙ end in cc);
+    rising = λ i j f e less at_i at_j. let none = (goal_at i f at_i).0 in omega (arith, none);
     sorted = λ i j f e less at_i at_j same.
         start.found_order i j f.state e.state less
         (map-at (λ (f : Found). f.state) found i f at_i) (map-at (λ (f : Found). f.state) found j e at_j);

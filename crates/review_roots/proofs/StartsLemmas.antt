@@ -8,7 +8,8 @@ use Rattle.std.proofs.lemmas.List.{get_or-set_other, get_or-set_same, length-set
 use Rattle.std.proofs.lemmas.List.Elements.{All-push}
 use Rattle.review_roots.specs.declared.search.Found.{Found}
 use Rattle.review_roots.specs.declared.state.State.{State}
-use Rattle.review_roots.specs.Body.Found.{AreStarts, AreStartsBefore, IsFoundAt, IsFoundBefore, is_start, with_start}
+use Rattle.review_roots.specs.Body.Found.{AreStarts, AreStartsBefore, IsFoundAt, IsFoundBefore, with_start}
+use Rattle.review_roots.specs.States.{is_start}
 use Rattle.review_roots.proofs.ListSteps.{take-more}
 use Rattle.review_roots.proofs.LoopLemmas.{there}
 

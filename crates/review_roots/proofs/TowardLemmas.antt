@@ -113,14 +113,14 @@ module _
 
     -- where no block that raises stands, the step has not the least level
     pub foreign-barred :
-        list_any (both_at h.on.items allowed) c.strong.items ≡ false → (k : Counted) (l : Level) (user : ℕ) → is_at_least h.least l ≡ true →
-        is_at_least l (level_for k user (given_towards h.checked.now h.directory.now h.host.now c.person v g)) ≡ false
-    foreign-barred none k l user above =
-        ap (λ a. is_at_least l (level_for k user a)) (sym towards-asked)
+        list_any (both_at h.on.items allowed) c.strong.items ≡ false → (k : Counted) (l : Level) → is_at_least h.least l ≡ true →
+        is_at_least l (level_for k (given_towards h.checked.now h.directory.now h.host.now c.person v g)) ≡ false
+    foreign-barred none k l above =
+        ap (λ a. is_at_least l (level_for k a)) (sym towards-asked)
         ∙ weak-level h.least (given_asked h.checked.now h.directory.now c.person h.host.now (Some v) g) h.listed
         (weak-asked h.checked.now h.directory.now h.least c.person h.host.now (Some v) g h.blocks.now h.tied h.listed
         (sym (any-are (raises_for h.checked.now h.least c.person) stands_for (both_at h.on.items allowed) h.blocks.now both-are)
-        ∙ sym (ap (list_any (both_at h.on.items allowed)) is.strong) ∙ none)) k l user above
+        ∙ sym (ap (list_any (both_at h.on.items allowed)) is.strong) ∙ none)) k l above
 
 -- the step, from the user, the target and the group
 pub step-from :

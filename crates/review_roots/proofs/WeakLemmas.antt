@@ -1,5 +1,5 @@
 -- Without a block that raises, what is given has not the least level.
-use Rattle.std.proofs.Common.{◌≡◌, ◌<◌, ◌≤◌, ◌∙◌, ℕ, Bool, true, false, not, cond, ◌&&◌, ◌||◌, ◌==◌, List, [], ◌∷◌, ap, arith, flat_map}
+use Rattle.std.proofs.Common.{◌≡◌, ◌<◌, ◌≤◌, ◌∙◌, ℕ, Bool, true, false, not, cond, ◌&&◌, ◌||◌, List, [], ◌∷◌, ap, arith, flat_map}
 use Rattle.std.proofs.Common.{map, refl, subst, sym, inl, inr, ◌⊎◌, Option, Some, None, option_copied}
 use Rattle.std.specs.Prelude.{is_some}
 use Rattle.std.specs.List.{list_any}
@@ -176,9 +176,9 @@ weak-asked p d least u m t g bs tied listed none =
 
 -- a step that is weak has not the least level
 pub weak-level :
-    (least : Level) (a : Given) → is_at_least level.Listed least ≡ true → IsWeak least a → (k : Counted) (l : Level) (user : ℕ)
-    → is_at_least least l ≡ true → is_at_least l (level_for k user a) ≡ false
-weak-level least a listed weak k l user above = go k
+    (least : Level) (a : Given) → is_at_least level.Listed least ≡ true → IsWeak least a → (k : Counted) (l : Level)
+    → is_at_least least l ≡ true → is_at_least l (level_for k a) ≡ false
+weak-level least a listed weak k l above = go k
   where
     below : is_at_least l a.level ≡ false
     below =
@@ -196,11 +196,10 @@ weak-level least a listed weak k l user above = go k
     either true = below
     either false = none
 
-    go : (k : Counted) → is_at_least l (level_for k user a) ≡ false
+    go : (k : Counted) → is_at_least l (level_for k a) ≡ false
     go counted.Any = below
     go counted.Unasked = either a.unasked
     go counted.Free = either a.free
-    go (counted.Own owner) = either ((user == owner) || a.unasked)
 
 pub any-weaker : {X : Type 0} (f g : X → Bool) → ((x : X) → f x ≡ false → g x ≡ false) → (xs : List X) → list_any f xs ≡ false
     → list_any g xs ≡ false

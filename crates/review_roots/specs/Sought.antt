@@ -1,5 +1,4 @@
--- The steps on a host that count: all of them, those that may go without a password, those that ask for none, or those of one user
--- and of others those that may go without.
+-- The steps on a host that count: all of them, those that may go without a password, or those that ask for none.
 use Rattle.std.specs.Prelude.{ℕ}
 use Rattle.review_roots.specs.declared.given.Counted.TheVariants as counted
 use Rattle.review_roots.specs.declared.host.HostSteps.{HostSteps}
@@ -21,6 +20,3 @@ unasked_steps h target = steps_to h.checked.now h.directory.now h.host.now h.gro
 
 abbrev pub free_steps : HostSteps → ℕ → Steps State
 free_steps h target = steps_to h.checked.now h.directory.now h.host.now h.groups.now target counted.Free
-
-abbrev pub own_steps : HostSteps → ℕ → ℕ → Steps State
-own_steps h target user = steps_to h.checked.now h.directory.now h.host.now h.groups.now target (counted.Own user)

@@ -1,7 +1,7 @@
 -- Who a user can be on the way to a target: a known user, with at most one added group, since sudo runs a command with the
 -- group that is asked for. sudo(8), options -u and -g.
-use Rattle.std.specs.Prelude.{ℕ, if◌then◌else◌, ◌==◌, List, [], ◌∷◌, ◌++◌, ◌||◌, map, flat_map, length, slice_get, Option}
-use Rattle.std.specs.Prelude.{Some, None, option_map}
+use Rattle.std.specs.Prelude.{ℕ, Bool, not, if◌then◌else◌, ◌==◌, List, [], ◌∷◌, ◌++◌, ◌&&◌, map, flat_map, length, slice_get, Option}
+use Rattle.std.specs.Prelude.{Some, None, is_some, option_map}
 use Rattle.std.specs.List.{range_with_len}
 use Rattle.sudo_grammar.specs.declared.policy.Policy.{Policy}
 use Rattle.sudo_match.specs.declared.people.Person.{Person}
@@ -45,6 +45,10 @@ step_given p d m groups s t =
 abbrev pub state_with : Option ℕ → ℕ → State
 state_with added user = record { user = user; added = added }
 
+-- the user without an added group
+abbrev pub is_start : ℕ → State → Bool
+is_start user s = (s.user == user) && not (is_some s.added)
+
 -- each user with this added group, if any
 abbrev pub states_with : ℕ → Option ℕ → List State
 states_with users added = map (state_with added) (range_with_len 0 users)
@@ -54,18 +58,17 @@ abbrev pub all_states : ℕ → ℕ → List State
 all_states users groups =
     states_with users None ++ flat_map (λ i. states_with users (Some i)) (range_with_len 0 groups)
 
--- the level of what a step of a user gives, where every step counts; where those count that may go without a password; where only
--- those count that ask for none; and where those of one user count, and of others those that may go without a password
-abbrev pub level_for : Counted → ℕ → Given → Level
-level_for counted.Any user a = a.level
-level_for counted.Unasked user a = if a.unasked then a.level else level.None
-level_for counted.Free user a = if a.free then a.level else level.None
-level_for (counted.Own owner) user a = if (user == owner) || a.unasked then a.level else level.None
+-- the level of what a step gives, where every step counts; where those count that may go without a password; and where only those
+-- count that ask for none
+abbrev pub level_for : Counted → Given → Level
+level_for counted.Any a = a.level
+level_for counted.Unasked a = if a.unasked then a.level else level.None
+level_for counted.Free a = if a.free then a.level else level.None
 
 -- the steps on a host towards a user that count
 abbrev pub steps_to : Policy → KnownRows → Machine → List Group → ℕ → Counted → Steps State
 steps_to p d m groups target k = record {
   states = all_states (length d.people) (length groups);
-  level = λ s t. level_for k s.user (step_given p d m groups s t);
+  level = λ s t. level_for k (step_given p d m groups s t);
   goal = λ s. s.user == target;
 }

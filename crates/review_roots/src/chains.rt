@@ -12,41 +12,41 @@ ghost use Rattle.review_roots.specs.declared.search.Found.{Found as TheFound};
 use crate::Level;
 use crate::given::Counted;
 use crate::host::HostSteps;
-use crate::near::{Turning, turning_of};
 use crate::search::{Found, Reach, Sought, found_of, has_step, spread_of};
 use crate::starts::starts_of;
+use crate::turned::turned_of;
 use std::alloc::{AllocError, Global};
 
 /// The states from which chains of a level lead to a target, each with the first of its shortest ones: by any steps, by steps that may
-/// go without a password, and by steps that ask for none; where each user is among them; and, where no group may be added, where chains
-/// turn by steps of one user.
+/// go without a password, by steps that ask for none, and by steps of which the first one alone asks; and where each user is among them.
 #[derive(Drop)]
-pub(crate) struct Chains<'r> {
+pub(crate) struct Chains {
     pub(crate) any: Vec<Found>,
     pub(crate) any_starts: Vec<Option<usize>>,
     pub(crate) unasked: Vec<Found>,
     pub(crate) unasked_starts: Vec<Option<usize>>,
     pub(crate) free: Vec<Found>,
     pub(crate) free_starts: Vec<Option<usize>>,
-    pub(crate) turning: Option<Turning<'r>>,
+    pub(crate) turned: Vec<Found>,
+    pub(crate) turned_starts: Vec<Option<usize>>,
 }
 
 /// The chains of each level. There are none of a level by which no further state leads to the target.
 #[derive(Drop)]
-pub(crate) struct Levels<'r> {
-    pub(crate) all: Chains<'r>,
-    pub(crate) all_but: Option<Chains<'r>>,
-    pub(crate) listed: Option<Chains<'r>>,
+pub(crate) struct Levels {
+    pub(crate) all: Chains,
+    pub(crate) all_but: Option<Chains>,
+    pub(crate) listed: Option<Chains>,
 }
 
 // Returns the chains of a level to the target, where those of any steps are found.
-fn chains_at<'r>(
+fn chains_at(
     alloc: Global,
-    steps: &HostSteps<'r, '_>,
+    steps: &HostSteps<'_, '_>,
     target: usize,
     level: Level,
     any: Vec<Found>,
-) -> Result<Chains<'r>, AllocError>
+) -> Result<Chains, AllocError>
     requires level { IsTrue (is_at_least steps.now.least level) }
     requires any { AreFound (any_steps steps.now target) steps.now.states.now level any.items }
     requires given { AreGiven steps.now any.items }
@@ -78,7 +78,7 @@ fn chains_at<'r>(
     )?;
     let unasked_starts = starts_of(alloc, users, &unasked)?;
     let free_starts = starts_of(alloc, users, &free)?;
-    let turning = turning_of(
+    let turned = turned_of(
         alloc,
         steps,
         target,
@@ -87,6 +87,7 @@ fn chains_at<'r>(
         &unasked,
         &unasked_starts,
     )?;
+    let turned_starts = starts_of(alloc, users, &turned)?;
     Ok(Chains {
         any,
         any_starts,
@@ -94,18 +95,19 @@ fn chains_at<'r>(
         unasked_starts,
         free,
         free_starts,
-        turning,
+        turned,
+        turned_starts,
     })
 }
 
 // Returns the same, if there are chains of the level.
-fn chains_if<'r>(
+fn chains_if(
     alloc: Global,
-    steps: &HostSteps<'r, '_>,
+    steps: &HostSteps<'_, '_>,
     target: usize,
     level: Level,
     spread: Option<Reach<'_>>,
-) -> Result<Option<Chains<'r>>, AllocError>
+) -> Result<Option<Chains>, AllocError>
     requires { IsSomeSpread steps.now target level spread }
     ensures lower { (above : List TheFound) → IsLowerSpread steps.now target level above spread.entry
         → IfOk result (λ chains. IsLower steps.now target level above chains) }
@@ -168,11 +170,11 @@ fn lowest<'r>(
 }
 
 /// Returns the chains of each level to the target. Returns `AllocError` if allocation fails.
-pub(crate) fn levels_of<'r>(
+pub(crate) fn levels_of(
     alloc: Global,
-    steps: &HostSteps<'r, '_>,
+    steps: &HostSteps<'_, '_>,
     target: usize,
-) -> Result<Levels<'r>, AllocError>
+) -> Result<Levels, AllocError>
     ensures { IfOk result (λ levels. AreLevels steps.now target levels) }
 {
     let sought = Sought {

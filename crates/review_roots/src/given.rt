@@ -45,8 +45,6 @@ pub(crate) enum Counted {
     Unasked,
     /// Those that allow every command with NOPASSWD.
     Free,
-    /// Those of the user with this index, and of others those that allow a command with NOPASSWD, perhaps.
-    Own(usize),
 }
 
 /// What no row gives.
@@ -101,15 +99,14 @@ impl Given {
         own < its || (own == its && self.is_eased(other))
     }
 
-    /// Returns the level, if the step of the user counts, and otherwise `None`.
-    pub(crate) fn level_for(self, counted: Counted, user: usize) -> Level
-        ensures { result ≡ level_for counted user self }
+    /// Returns the level, if the step counts, and otherwise `None`.
+    pub(crate) fn level_for(self, counted: Counted) -> Level
+        ensures { result ≡ level_for counted self }
     {
         match counted {
             Counted::Any => self.level,
             Counted::Unasked => self.level_if(self.unasked),
             Counted::Free => self.level_if(self.free),
-            Counted::Own(owner) => self.level_if(user == owner || self.unasked),
         }
     }
 

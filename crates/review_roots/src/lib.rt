@@ -21,7 +21,6 @@ mod layer;
 mod level;
 mod may;
 mod naming;
-mod near;
 mod order;
 mod raising;
 mod roots;
@@ -31,6 +30,7 @@ mod starts;
 mod state;
 mod steps;
 mod toward;
+mod turned;
 mod unnamed;
 mod way;
 

@@ -53,7 +53,7 @@ impl May {
         ensures { result ≡ spec.may_for counted self }
     {
         match counted {
-            Counted::Any | Counted::Own(_) => self.level,
+            Counted::Any => self.level,
             Counted::Unasked => self.unasked,
             Counted::Free => self.level_if_free(),
         }

@@ -4,20 +4,16 @@ ghost use Rattle.review_roots.specs.Chains.{HasNoPath};
 ghost use Rattle.review_roots.specs.Ranks.{is_at_least};
 ghost use Rattle.review_roots.specs.Sought.{any_steps, free_steps, unasked_steps};
 ghost use Rattle.review_roots.specs.States.{state_with};
-ghost use Rattle.review_roots.specs.Ways.{IsChain, IsWay, adds_groups as spec_adds_groups};
-ghost use Rattle.review_roots.specs.Body.Found.{AreLevels, ChainsLead, IsBest, IsFoundAt, TurningLeads, any_sought, is_start};
+ghost use Rattle.review_roots.specs.Ways.{IsWay};
+ghost use Rattle.review_roots.specs.Body.Found.{AreLevels, ChainsLead, IsBest, IsFoundAt};
 ghost use Rattle.review_roots.specs.Roots.{AreRoots, IsRootAt, IsNoRoot, has_zero};
 ghost use Rattle.review_roots.specs.declared.chains.Chains.{Chains as TheChains};
 ghost use Rattle.review_roots.specs.declared.level.Level.TheVariants as level;
 
 use crate::Level;
 use crate::chains::{Chains, Levels, levels_of};
-use crate::given::Counted;
 use crate::host::HostSteps;
-use crate::near::{Turning, is_near, may_turn};
-use crate::search::{Found, Sought, found_among, found_of};
 use crate::starts::start_at;
-use crate::state::State;
 use crate::way::{Way, way_of};
 use std::alloc::{AllocError, Global};
 
@@ -40,139 +36,14 @@ fn has_zero(steps: &HostSteps<'_, '_>, user: usize) -> bool
     }
 }
 
-// Whether the state is that of the user without an added group.
-fn is_start(state: State, user: usize) -> bool
-    ensures { result ≡ is_start user state }
-{
-    state.user == user && state.added.is_none()
-}
-
-// Returns the index of the user without an added group among the found states.
-fn start_index(found: &[Found], user: usize) -> Option<usize>
-    ensures { IsFoundAt found.now user result }
-{
-    for index in 0..found.len() {
-        if is_start(found[index].state, user) {
-            return Some(index);
-        }
-    }
-    None
-}
-
-// Returns a chain from the user of the level that asks for nobody else's password, or else this one.
-fn own_way(
-    alloc: Global,
-    steps: &HostSteps<'_, '_>,
-    target: usize,
-    level: Level,
-    chains: &Chains<'_>,
-    turning: &Turning<'_>,
-    user: usize,
-    way: Way,
-) -> Result<Way, AllocError>
-    requires lead { ChainsLead steps.now target level chains.now }
-    requires turning { TurningLeads steps.now target level chains.now.any_starts.items
-        chains.now.unasked.items turning.now }
-    requires wanted { get_or turning.now.wanted.items user true ≡ true }
-    requires known { user < length steps.now.directory.now.people }
-    requires alone { spec_adds_groups steps.now ≡ false }
-    requires best { IsBest steps.now target level user }
-    requires free { HasNoPath (free_steps steps.now target) level (state_with None user) }
-    requires unasked { HasNoPath (unasked_steps steps.now target) level (state_with None user) }
-    requires level { way.level ≡ level }
-    requires way { IsChain steps.now (any_sought target) (state_with None user) way }
-    ensures { IfOk result (λ way. IsWay steps.now target steps.now.least (state_with None user)
-        way) }
-{
-    let sought = Sought {
-        target,
-        counted: Counted::Own(user),
-    };
-    let own = found_among(alloc, steps, sought, level, &turning.goals, &turning.asking)?;
-    match start_index(&own, user) {
-        Some(index) => way_of(alloc, steps, level, &own, index),
-        None => Ok(way),
-    }
-}
-
-// Does the same, with a search from nothing.
-fn plain_way(
-    alloc: Global,
-    steps: &HostSteps<'_, '_>,
-    target: usize,
-    level: Level,
-    user: usize,
-    way: Way,
-) -> Result<Way, AllocError>
-    requires enough { IsTrue (is_at_least steps.now.least level) }
-    requires known { user < length steps.now.directory.now.people }
-    requires alone { spec_adds_groups steps.now ≡ false }
-    requires best { IsBest steps.now target level user }
-    requires free { HasNoPath (free_steps steps.now target) level (state_with None user) }
-    requires unasked { HasNoPath (unasked_steps steps.now target) level (state_with None user) }
-    requires level { way.level ≡ level }
-    requires way { IsChain steps.now (any_sought target) (state_with None user) way }
-    ensures { IfOk result (λ way. IsWay steps.now target steps.now.least (state_with None user)
-        way) }
-{
-    let sought = Sought {
-        target,
-        counted: Counted::Own(user),
-    };
-    let own = found_of(alloc, steps, sought, level, &[])?;
-    match start_index(&own, user) {
-        Some(index) => way_of(alloc, steps, level, &own, index),
-        None => Ok(way),
-    }
-}
-
-// Does the same, where a step leads to where such a chain may turn to the target.
-fn turning_way(
-    alloc: Global,
-    steps: &HostSteps<'_, '_>,
-    target: usize,
-    level: Level,
-    chains: &Chains<'_>,
-    turning: &Turning<'_>,
-    user: usize,
-    way: Way,
-) -> Result<Way, AllocError>
-    requires lead { ChainsLead steps.now target level chains.now }
-    requires turning { TurningLeads steps.now target level chains.now.any_starts.items
-        chains.now.unasked.items turning.now }
-    requires wanted { get_or turning.now.wanted.items user true ≡ true }
-    requires away { user ≡ target → ⊥ }
-    requires known { user < length steps.now.directory.now.people }
-    requires alone { spec_adds_groups steps.now ≡ false }
-    requires best { IsBest steps.now target level user }
-    requires free { HasNoPath (free_steps steps.now target) level (state_with None user) }
-    requires unasked { HasNoPath (unasked_steps steps.now target) level (state_with None user) }
-    requires level { way.level ≡ level }
-    requires way { IsChain steps.now (any_sought target) (state_with None user) way }
-    ensures { IfOk result (λ way. IsWay steps.now target steps.now.least (state_with None user)
-        way) }
-{
-    if !may_turn(
-        alloc,
-        steps,
-        level,
-        user,
-        &turning.asking,
-        &turning.near_states,
-    )? {
-        return Ok(way);
-    }
-    own_way(alloc, steps, target, level, chains, turning, user, way)
-}
-
-// Returns the chain of a found state that is the user without an added group, where each chain of the level asks for a password: one
-// that asks for nobody else's, if there is one.
+// Returns the chain of a found state that is the user without an added group, where each chain of the level asks for a password: one of
+// which the first step alone asks, if there is one.
 fn asking_way(
     alloc: Global,
     steps: &HostSteps<'_, '_>,
     target: usize,
     level: Level,
-    chains: &Chains<'_>,
+    chains: &Chains,
     user: usize,
     index: usize,
 ) -> Result<Way, AllocError>
@@ -186,20 +57,9 @@ fn asking_way(
     ensures { IfOk result (λ way. IsWay steps.now target steps.now.least (state_with None user)
         way) }
 {
-    let way = way_of(alloc, steps, level, &chains.any, index)?;
-    if !way.password.is_other() {
-        return Ok(way);
-    }
-    let Some(turning) = &chains.turning else {
-        return Ok(way);
-    };
-    if !is_near(&turning.near, user) {
-        return Ok(way);
-    }
-    if is_near(&turning.wanted, user) {
-        turning_way(alloc, steps, target, level, chains, turning, user, way)
-    } else {
-        plain_way(alloc, steps, target, level, user, way)
+    match start_at(&chains.turned_starts, user) {
+        Some(index) => way_of(alloc, steps, level, &chains.turned, index),
+        None => way_of(alloc, steps, level, &chains.any, index),
     }
 }
 
@@ -210,7 +70,7 @@ fn asked_way(
     steps: &HostSteps<'_, '_>,
     target: usize,
     level: Level,
-    chains: &Chains<'_>,
+    chains: &Chains,
     user: usize,
     index: usize,
 ) -> Result<Way, AllocError>
@@ -235,7 +95,7 @@ fn best_way(
     steps: &HostSteps<'_, '_>,
     target: usize,
     level: Level,
-    chains: &Chains<'_>,
+    chains: &Chains,
     user: usize,
     index: usize,
 ) -> Result<Way, AllocError>
@@ -259,7 +119,7 @@ fn way_at(
     steps: &HostSteps<'_, '_>,
     target: usize,
     level: Level,
-    chains: &Chains<'_>,
+    chains: &Chains,
     user: usize,
 ) -> Result<Option<Way>, AllocError>
     requires lead { ChainsLead steps.now target level chains.now }
@@ -281,7 +141,7 @@ fn way_below(
     steps: &HostSteps<'_, '_>,
     target: usize,
     level: Level,
-    chains: &Option<Chains<'_>>,
+    chains: &Option<Chains>,
     user: usize,
 ) -> Result<Option<Way>, AllocError>
     requires lead { (c : TheChains) → chains.now ≡ Some c → ChainsLead steps.now target level c }
@@ -305,7 +165,7 @@ fn way_lower(
     alloc: Global,
     steps: &HostSteps<'_, '_>,
     target: usize,
-    levels: &Levels<'_>,
+    levels: &Levels,
     user: usize,
 ) -> Result<Option<Way>, AllocError>
     requires levels { AreLevels steps.now target levels.now }
@@ -327,7 +187,7 @@ fn way_from(
     alloc: Global,
     steps: &HostSteps<'_, '_>,
     target: usize,
-    levels: &Levels<'_>,
+    levels: &Levels,
     user: usize,
 ) -> Result<Option<Way>, AllocError>
     requires levels { AreLevels steps.now target levels.now }
@@ -348,7 +208,7 @@ fn root_of(
     alloc: Global,
     steps: &HostSteps<'_, '_>,
     target: usize,
-    levels: &Levels<'_>,
+    levels: &Levels,
     user: usize,
 ) -> Result<Option<Root>, AllocError>
     requires levels { AreLevels steps.now target levels.now }
@@ -372,9 +232,9 @@ fn root_of(
 /// and those from whom a chain of steps of the least level of the steps, or a better one, leads to it.
 ///
 /// The chain that is given has the best level of all from the user, however long. Of those of that level none asks for less: it
-/// asks for no password, if one does not; otherwise its steps may go without, if those of one may; otherwise, where no group may
-/// be added, it asks for the user's own alone, if one does. Of those of that level that ask for no more none has fewer steps, and of those
-/// that have no more it is the first, by the names of the users of its states, and then by their added groups.
+/// asks for no password, if one does not; otherwise its steps may go without, if those of one may; otherwise it asks for the user's own
+/// alone, and without an added group, if one does. Of those of that level that ask for no more none has fewer steps, and of those that have
+/// no more it is the first, by the names of the users of its states, and then by their added groups.
 /// From a user that is not among them no chain of the least level leads to the target, however long.
 ///
 /// Returns `AllocError` if allocation fails.

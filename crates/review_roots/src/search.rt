@@ -5,7 +5,7 @@ ghost use Rattle.review_roots.specs.Sought.{steps_of};
 ghost use Rattle.review_roots.specs.Body.Candidates.{states_of};
 ghost use Rattle.review_roots.specs.Body.Found.{AreDeep, AreFound, AreGiven, AreOrdered, HaveNoChain, IsCandidate, IsDrawn};
 ghost use Rattle.review_roots.specs.Body.Found.{IsSearch};
-ghost use Rattle.review_roots.specs.Body.Found.{found_there, goals_of, is_left, kept_steps, may_start, reaches};
+ghost use Rattle.review_roots.specs.Body.Found.{found_there, is_left, kept_steps, may_start, reaches};
 ghost use Rattle.review_roots.specs.Body.Towards.{IsToward};
 ghost use Rattle.review_roots.specs.Ranks.{is_at_least};
 ghost use Rattle.review_roots.specs.Ways.{step_on};
@@ -70,7 +70,7 @@ pub(crate) fn reached(
         return None;
     }
     let given = steps.step_toward(candidate, toward);
-    let level = given.level_for(aim.counted, candidate.state.user);
+    let level = given.level_for(aim.counted);
     if level.is_at_least(aim.level) {
         Some(given)
     } else {
@@ -78,8 +78,8 @@ pub(crate) fn reached(
     }
 }
 
-// Whether no candidate is left.
-fn is_none(left: &[&Candidate]) -> bool
+/// Whether no candidate is left.
+pub(crate) fn is_none(left: &[&Candidate]) -> bool
     ensures { result ≡ true → left.now ≡ [] }
 {
     match left {
@@ -125,8 +125,8 @@ fn spread<'c>(
     Ok(left)
 }
 
-/// Returns the kept states at the target. Returns `AllocError` if allocation fails.
-pub(crate) fn found_at(
+// Returns the kept states at the target. Returns `AllocError` if allocation fails.
+fn found_at(
     alloc: Global,
     steps: &HostSteps<'_, '_>,
     target: usize,
@@ -158,10 +158,10 @@ fn may_start(starts: &[Option<usize>], state: State) -> bool
     }
 }
 
-// Whether the candidate is left: a chain may begin with it, it is not the target, a block on the host that raises lists it, and one of
-// its steps that count may have the least level. The last is not looked up where few are left: where listed commands do not count, and
-// no group may be added.
-fn is_left(
+/// Whether the candidate is left: a chain may begin with it, it is not the target, a block on the host that raises lists it, and one of
+/// its steps that count may have the least level. The last is not looked up where few are left: where listed commands do not count, and
+/// no group may be added.
+pub(crate) fn is_left(
     steps: &HostSteps<'_, '_>,
     sought: Sought,
     starts: &[Option<usize>],
@@ -175,8 +175,8 @@ fn is_left(
             || steps.may_count(candidate, sought.counted))
 }
 
-/// Returns the candidates with which a chain may begin, and of which a step that counts may have the least level, but for the target.
-pub(crate) fn heard<'r>(
+// Returns the candidates with which a chain may begin, and of which a step that counts may have the least level, but for the target.
+fn heard<'r>(
     alloc: Global,
     steps: &HostSteps<'r, '_>,
     sought: Sought,
@@ -252,8 +252,8 @@ pub(crate) fn found_of(
     Ok(found)
 }
 
-// Returns copies of found states.
-fn copied(alloc: Global, found: &[Found]) -> Result<Vec<Found>, AllocError>
+/// Returns copies of found states. Returns `AllocError` if allocation fails.
+pub(crate) fn copied(alloc: Global, found: &[Found]) -> Result<Vec<Found>, AllocError>
     ensures { IfOk result (λ copies. copies.items ≡ found.now) }
 {
     let mut copies = Vec::new(alloc);
@@ -261,51 +261,6 @@ fn copied(alloc: Global, found: &[Found]) -> Result<Vec<Found>, AllocError>
         copies.push(*state)?;
     }
     Ok(copies)
-}
-
-// Returns those of the candidates that are left.
-fn heard_of<'r>(
-    alloc: Global,
-    steps: &HostSteps<'_, '_>,
-    sought: Sought,
-    candidates: &[&'r Candidate],
-) -> Result<Vec<&'r Candidate>, AllocError>
-    ensures { IfOk result (λ left. map (λ c. c.now) left.items
-        ≡ filter (is_left steps.now sought []) (map (λ c. c.now) candidates.now)) }
-{
-    let mut left = Vec::new(alloc);
-    for candidate in candidates {
-        if is_left(steps, sought, &[], candidate) {
-            left.push(*candidate)?;
-        }
-    }
-    Ok(left)
-}
-
-/// Returns the same as `found_of` without starts, from the states at the target and from candidates among which are all that are left.
-///
-/// Returns `AllocError` if allocation fails.
-pub(crate) fn found_among(
-    alloc: Global,
-    steps: &HostSteps<'_, '_>,
-    sought: Sought,
-    level: Level,
-    goals: &[Found],
-    candidates: &[&Candidate],
-) -> Result<Vec<Found>, AllocError>
-    requires level { IsTrue (is_at_least steps.now.least level) }
-    requires goals { goals.now ≡ goals_of steps.now sought.target }
-    requires candidates { filter (is_left steps.now sought []) (map (λ c. c.now) candidates.now)
-        ≡ filter (is_left steps.now sought []) steps.now.candidates.now }
-    ensures found { IfOk result (λ found. AreFound (steps_of steps.now sought) steps.now.states.now
-        level found.items) }
-    ensures given { IfOk result (λ found. AreGiven steps.now found.items) }
-    ensures order { IfOk result (λ found. AreOrdered steps.now sought level found.items) }
-{
-    let mut found = copied(alloc, goals)?;
-    let left = heard_of(alloc, steps, sought, candidates)?;
-    spread(alloc, steps, sought, level, left, &mut found)?;
-    Ok(found)
 }
 
 // Whether a candidate has a step to the aim.
@@ -326,8 +281,8 @@ fn is_reached(steps: &HostSteps<'_, '_>, aim: Aim, toward: &Toward, left: &[&Can
     false
 }
 
-/// Whether a candidate has a step to the aim. Returns `AllocError` if allocation fails.
-pub(crate) fn is_reached_by(
+// Whether a candidate has a step to the aim. Returns `AllocError` if allocation fails.
+fn is_reached_by(
     alloc: Global,
     steps: &HostSteps<'_, '_>,
     aim: Aim,

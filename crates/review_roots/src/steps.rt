@@ -167,14 +167,11 @@ impl<'r, 'a> HostSteps<'r, 'a> {
     /// and lists the candidate nearly always has it.
     pub(crate) fn may_count(&self, candidate: &Candidate, counted: Counted) -> bool
         ensures { result ≡ most.may_count self.now.on.items self.now.blocks.now self.now.least
-            counted candidate.now.state.user candidate.now.listed.items }
+            counted candidate.now.listed.items }
     {
         match counted {
             Counted::Any => true,
             Counted::Unasked | Counted::Free => self.may_reach_least(candidate, counted),
-            Counted::Own(owner) => {
-                candidate.state.user == owner || self.may_reach_least(candidate, Counted::Unasked)
-            }
         }
     }
 
@@ -366,8 +363,8 @@ impl<'r, 'a> HostSteps<'r, 'a> {
         requires candidate { IsCandidate self.now candidate.now }
         requires toward { IsToward self.now.checked.now self.now.directory.now self.now.groups.now
             self.now.blocks.now toward.now.state toward.now }
-        ensures { result ≡ true → (k : TheCounted) (l : TheLevel) (user : ℕ)
-            → is_at_least self.now.least l ≡ true → is_at_least l (level_for k user (step_given
+        ensures { result ≡ true → (k : TheCounted) (l : TheLevel)
+            → is_at_least self.now.least l ≡ true → is_at_least l (level_for k (step_given
             self.now.checked.now self.now.directory.now self.now.host.now self.now.groups.now
             candidate.now.state toward.now.state)) ≡ false }
     {

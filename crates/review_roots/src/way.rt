@@ -1,10 +1,10 @@
 //! A chain of steps to a target, with the row that allows its first step, and whose passwords it asks for.
-ghost use Rattle.std.specs.Prelude.{◌≡◌, ◌<◌, ◌≤◌, false, All, IfOk, Some, length, slice_get};
+ghost use Rattle.std.specs.Prelude.{◌≡◌, ◌<◌, All, IfOk, Some, length, slice_get};
 ghost use Rattle.std.specs.List.{Contains};
 ghost use Rattle.review_roots.specs.Sought.{steps_of};
 ghost use Rattle.review_roots.specs.Body.Found.{AreFound, AreGiven, AreOrdered, PointBack, found_states};
-ghost use Rattle.review_roots.specs.Body.Passing.{HasMarks, HasPassword, HasRow, IsAlong, LeadsWhole};
-ghost use Rattle.review_roots.specs.Ways.{IsChain, password_name, password_rank, step_password, worse};
+ghost use Rattle.review_roots.specs.Body.Passing.{HasMarks, HasPassword, HasRow, IsAlong, IsTraced, LeadsWhole};
+ghost use Rattle.review_roots.specs.Ways.{IsChain, password_name, step_password, worse};
 ghost use Rattle.review_roots.specs.declared.search.Found.{Found as TheFound};
 ghost use Rattle.review_roots.specs.declared.search.Sought.{Sought as TheSought};
 
@@ -23,7 +23,7 @@ pub enum Password {
     None,
     /// Perhaps one: each step allows a command that may go without.
     Maybe,
-    /// That of the user with whom the chain begins, and no other.
+    /// That of the user with whom the chain begins, and no other's.
     Own,
     /// That of another user.
     Other,
@@ -54,16 +54,6 @@ impl Password {
             Password::Maybe => b"?",
             Password::Own => b"own",
             Password::Other => b"other",
-        }
-    }
-
-    /// Whether it is that of another user.
-    pub(crate) fn is_other(self) -> bool
-        ensures { result ≡ false → password_rank self ≤ 2 }
-    {
-        match self {
-            Password::Other => true,
-            Password::None | Password::Maybe | Password::Own => false,
         }
     }
 
@@ -153,10 +143,11 @@ pub(crate) fn way_of(
     requires back { PointBack found.now }
     requires given { AreGiven steps.now found.now }
     requires inside { index < length found.now }
-    ensures { IfOk result (λ way. (way.level ≡ level) × ((q : TheSought) (f : TheFound)
+    ensures chain { IfOk result (λ way. (way.level ≡ level) × ((q : TheSought) (f : TheFound)
         → AreFound (steps_of steps.now q) steps.now.states.now level found.now
         → AreOrdered steps.now q level found.now → slice_get found.now index ≡ Some f
         → IsChain steps.now q f.state way)) }
+    ensures traced { IfOk result (λ way. IsTraced steps.now found.now index way) }
 {
     let Found {
         state,

@@ -1,8 +1,8 @@
 -- The states that are found to lead to a target, and what is known of those that are left.
-use Rattle.std.specs.Prelude.{◌≡◌, ◌<◌, ◌≤◌, ◌+◌, ◌⊎◌, ◌&&◌, ◌||◌, ◌==◌, ℕ, Bool, true, false, not, if◌then◌else◌, is_some, List, All}
+use Rattle.std.specs.Prelude.{◌≡◌, ◌<◌, ◌≤◌, ◌+◌, ◌++◌, ◌⊎◌, ◌&&◌, ◌||◌, ◌==◌, ℕ, Bool, true, false, not, if◌then◌else◌, is_some, List, All}
 use Rattle.std.specs.Prelude.{[], ◌∷◌, Option, Some, None, drop, filter, get_or, length, map, nat_lt, set, slice_get, take}
 use Rattle.std.specs.Ordering.{is_gt}
-use Rattle.std.specs.List.{Contains}
+use Rattle.std.specs.List.{Contains, filter_map}
 use Rattle.review_roots.specs.declared.level.Level.{Level}
 use Rattle.review_roots.specs.declared.level.Level.TheVariants as level
 use Rattle.review_roots.specs.declared.given.Counted.{Counted}
@@ -13,7 +13,6 @@ use Rattle.sudo_match.specs.KnownRows.{KnownRows}
 use Rattle.review_roots.specs.declared.layer.Aimed.{Aimed}
 use Rattle.review_roots.specs.declared.layer.AnyToward.{AnyToward}
 use Rattle.review_roots.specs.declared.layer.AnyToward.TheVariants as toward
-use Rattle.review_roots.specs.declared.near.Turning.{Turning}
 use Rattle.review_roots.specs.declared.search.Aim.{Aim}
 use Rattle.review_roots.specs.declared.toward.Toward.{Toward}
 use Rattle.review_roots.specs.declared.chains.Chains.{Chains}
@@ -29,9 +28,9 @@ use Rattle.review_roots.specs.Order.{IsInOrder, state_cmp}
 use Rattle.review_roots.specs.Sought.{any_steps, free_steps, steps_of, unasked_steps}
 use Rattle.review_roots.specs.Chains.{Steps, Path, HasPath, HasNoPath}
 use Rattle.review_roots.specs.Ranks.{rank, is_at_least}
-use Rattle.review_roots.specs.States.{level_for, state_with, step_given}
+use Rattle.review_roots.specs.States.{is_start, level_for, state_with, step_given}
 use Rattle.review_roots.specs.Asked.{nothing}
-use Rattle.review_roots.specs.Ways.{adds_groups, step_on}
+use Rattle.review_roots.specs.Ways.{step_on}
 
 -- the steps on the host that are sought, between the states that are kept
 abbrev pub kept_steps : HostSteps → Sought → Steps State
@@ -56,7 +55,7 @@ HaveNoChain h target l starts =
 abbrev pub is_counted : HostSteps → Counted → Candidate → Bool
 is_counted h k c =
     ((length h.groups.now == 0) && is_at_least level.AllBut h.least)
-    || may_count h.on.items h.blocks.now h.least k c.state.user c.listed.items
+    || may_count h.on.items h.blocks.now h.least k c.listed.items
 
 -- a chain may begin with the candidate; a block on the host that raises lists it, which is not the target; and where many are left, a
 -- step of it that counts may have the least level
@@ -124,15 +123,17 @@ AreSorted d found =
     (i k : ℕ) (f e : Found) → i < k → slice_get found i ≡ Some f → slice_get found k ≡ Some e → f.steps ≡ e.steps →
     is_gt (state_cmp d f.state e.state) ≡ false
 
+-- no found state has a chain of fewer steps than one that was found before
+abbrev pub AreRising : List Found → Type 0
+AreRising found =
+    (i k : ℕ) (f e : Found) → i < k → slice_get found i ≡ Some f → slice_get found k ≡ Some e → f.steps ≤ e.steps
+
 -- each of the found states, which are kept ones, has the first of its shortest chains
 pub record AreOrdered (h : HostSteps) (q : Sought) (l : Level) (found : List Found) : Type 0 where
   pub kept : All (λ f. Contains h.states.now f.state) found
   pub first : AreFirst (steps_of h q) l found
+  pub rising : AreRising found
   pub sorted : AreSorted h.directory.now found
-
--- the user without an added group
-abbrev pub is_start : ℕ → State → Bool
-is_start user s = (s.user == user) && not (is_some s.added)
 
 -- the found state at the index is that of the user without an added group; without an index there is none
 abbrev pub IsFoundAt : List Found → ℕ → Option ℕ → Type 0
@@ -142,25 +143,6 @@ IsFoundAt found user (Some i) = (f : Found) × ((slice_get found i ≡ Some f) �
 -- all steps towards the target
 abbrev pub any_sought : ℕ → Sought
 any_sought target = record { target = target; counted = counted.Any }
-
--- of the candidates with which a chain may begin, the state is among those that are near, or none of its steps, of any kind, leads to
--- what is found
-abbrev pub AreNearTo : HostSteps → ℕ → Level → List (Option ℕ) → List Found → List Found → Type 0
-AreNearTo h target l starts found near =
-    All (λ c. Contains (found_states near) c.state
-    ⊎ All (λ f. is_at_least l (step_on h c.state f.state).level ≡ false) found)
-    (filter (is_left h (any_sought target) starts) h.candidates.now)
-
--- the marks with that of a further user
-abbrev pub marked : List Bool → ℕ → List Bool
-marked marks user = if nat_lt user (length marks) then set marks user true else marks
-
--- of the candidates with which a chain may begin, the user is marked, or none of its steps, of any kind, leads to what is found
-abbrev pub AreNear : HostSteps → ℕ → Level → List (Option ℕ) → List Found → List Bool → Type 0
-AreNear h target l starts found near =
-    All (λ c. (get_or near c.state.user true ≡ true)
-    ⊎ All (λ f. is_at_least l (step_on h c.state f.state).level ≡ false) found)
-    (filter (is_left h (any_sought target) starts) h.candidates.now)
 
 -- for each user, the index of its found state without an added group, if it is found
 abbrev pub AreStarts : List Found → List (Option ℕ) → Type 0
@@ -192,6 +174,8 @@ pub record AreChains (h : HostSteps) (c : Chains) : Type 0 where
   pub free_given : AreGiven h c.free.items
   pub free_starts : AreStarts c.free.items c.free_starts.items
   pub free_users : length c.free_starts.items ≡ length h.directory.now.people
+  pub turned_starts : AreStarts c.turned.items c.turned_starts.items
+  pub turned_users : length c.turned_starts.items ≡ length h.directory.now.people
 
 -- the steps towards the target that may go without a password, and those that ask for none
 abbrev pub unasked_sought : ℕ → Sought
@@ -204,42 +188,47 @@ free_sought target = record { target = target; counted = counted.Free }
 abbrev pub found_there : State → Found
 found_there s = record { state = s; steps = 0; next = None; given = nothing }
 
--- the state has an added group, and no step of a candidate that counts for the user leads to it
-pub record IsUnentered (h : HostSteps) (l : Level) (user : ℕ) (left : List Candidate) (s : State) : Type 0 where
-  pub added : s.added ≡ None → ⊥
-  pub none : All (λ c. is_at_least l (level_for (counted.Own user) c.state.user (step_on h c.state s)) ≡ false) left
+-- the step of the candidate to the aim has its level or a better one
+abbrev pub reaches : HostSteps → Aim → Candidate → Bool
+reaches h aim c =
+    is_at_least aim.level
+    (level_for aim.counted (step_given h.checked.now h.directory.now h.host.now h.groups.now c.state aim.state))
 
--- that is so of each of these states of the user
-abbrev pub AreUnentered : HostSteps → Level → ℕ → List Candidate → List Found → Type 0
-AreUnentered h l user left near = All (λ f. f.state.user ≡ user → IsUnentered h l user left f.state) near
+abbrev pub found_by : HostSteps → Aim → Candidate → Found
+found_by h aim c = record { state = c.state; steps = aim.steps; next = Some aim.index; given = step_on h c.state aim.state }
 
--- the states at the target, and which candidates may be on the way from a marked user by its own steps and by steps of others that
--- may go without a password
-abbrev pub goals_of : HostSteps → ℕ → List Found
-goals_of h target = map found_there (filter (λ s. s.user == target) h.states.now)
+-- a found state as an aim
+abbrev pub aim_of : Sought → Level → ℕ → Found → Aim
+aim_of q l i f = record { index = i; state = f.state; level = l; counted = q.counted; steps = f.steps + 1 }
 
-abbrev pub is_asking : HostSteps → ℕ → List Bool → Candidate → Bool
-is_asking h target near c =
-    is_heard h.on.items target c && (get_or near c.state.user true || is_counted h counted.Unasked c)
+-- found states as aims, the first one by this index
+abbrev pub aims_from : Sought → Level → ℕ → List Found → List Aim
+aims_from q l i [] = []
+aims_from q l i (f ∷ fs) = aim_of q l i f ∷ aims_from q l (i + 1) fs
 
-abbrev pub asking_of : HostSteps → ℕ → List Bool → List Candidate
-asking_of h target near = filter (is_asking h target near) h.candidates.now
+-- the found states from the n-th on as aims
+abbrev pub aims_at : Sought → Level → ℕ → List Found → List Aim
+aims_at q l n found = aims_from q l n (drop n found)
 
--- where chains turn to the target by steps of one user
-pub record TurningLeads (h : HostSteps) (target : ℕ) (l : Level) (starts : List (Option ℕ)) (unasked : List Found) (t : Turning) : Type 0
-  where
-    pub near : AreNear h target l starts unasked t.near.items
-    pub near_states : AreNearTo h target l starts unasked t.near_states.items
-    pub goals : t.goals.items ≡ goals_of h target
-    pub asking : map (λ c. c.now) t.asking.items ≡ asking_of h target t.wanted.items
+-- the candidate as it is found by the first of the aims to which it has a step, if it has one
+abbrev pub first_of : HostSteps → List Aim → Candidate → Option Found
+first_of h [] c = None
+first_of h (aim ∷ aims) c = if reaches h aim c then Some (found_by h aim c) else first_of h aims c
 
--- it is not sought where groups may be added
-abbrev pub IsTurning : HostSteps → ℕ → Level → List (Option ℕ) → List Found → Option Turning → Type 0
-IsTurning h target l starts unasked None = adds_groups h ≡ true
-IsTurning h target l starts unasked (Some t) = (adds_groups h ≡ false) × TurningLeads h target l starts unasked t
+-- the candidate has no added group; a chain may begin with it, but none whose steps may all go without a password
+abbrev pub is_asked : HostSteps → ℕ → List (Option ℕ) → List (Option ℕ) → Candidate → Bool
+is_asked h target starts unasked c =
+    not (is_some c.state.added) && (not (is_some (get_or unasked c.state.user None)) && is_left h (any_sought target) starts c)
 
--- the chains of a level to a target, by any steps, by steps that may go without a password, and by steps that ask for none; and where
--- chains turn by steps of one user
+-- what is found by steps that may go without a password, and behind it each such candidate with a step, of any kind, to one of these, by
+-- the first of these steps
+abbrev pub AreTurned : HostSteps → ℕ → Level → List (Option ℕ) → List Found → List (Option ℕ) → List Found → Type 0
+AreTurned h target l starts unasked unasked_starts turned =
+    turned ≡ unasked ++ filter_map (first_of h (aims_at (any_sought target) l 0 unasked))
+    (filter (is_asked h target starts unasked_starts) h.candidates.now)
+
+-- the chains of a level to a target, by any steps, by steps that may go without a password, by steps that ask for none, and by steps of
+-- which the first one alone asks
 pub record ChainsLead (h : HostSteps) (target : ℕ) (l : Level) (c : Chains) : Type 0 where
   pub level : is_at_least h.least l ≡ true
   pub any : AreFound (any_steps h target) h.states.now l c.any.items
@@ -249,7 +238,7 @@ pub record ChainsLead (h : HostSteps) (target : ℕ) (l : Level) (c : Chains) : 
   pub unasked_order : AreOrdered h (unasked_sought target) l c.unasked.items
   pub free_order : AreOrdered h (free_sought target) l c.free.items
   pub are : AreChains h c
-  pub turning : IsTurning h target l c.any_starts.items c.unasked.items c.turning
+  pub turned : AreTurned h target l c.any_starts.items c.unasked.items c.unasked_starts.items c.turned.items
 
 -- no further state has a chain of a lower level, if one has to be at least of the least; or these are the chains of it
 abbrev pub IsLower : HostSteps → ℕ → Level → List Found → Option Chains → Type 0
@@ -299,6 +288,7 @@ pub record IsSearch (d : KnownRows) (g : Steps State) (least l : Level) (n : ℕ
   pub before : (i : ℕ) (f : Found) → i < n → slice_get found i ≡ Some f → f.steps < depth
   pub after : (i : ℕ) (f : Found) → n ≤ i → slice_get found i ≡ Some f → f.steps ≡ depth
   pub first : AreFirst g l found
+  pub rising : AreRising found
   pub sorted : AreSorted d found
   pub waiting : IsInOrder d left
 
@@ -309,33 +299,6 @@ AreDeep found = (i : ℕ) (f : Found) → slice_get found i ≡ Some f → f.ste
 -- what is known of the candidate holds on the host
 abbrev pub IsCandidate : HostSteps → Candidate → Type 0
 IsCandidate h c = Qualifies h.checked.now h.directory.now h.groups.now h.least h.blocks.now c
-
--- the step of the candidate to the aim has its level or a better one
-abbrev pub reaches : HostSteps → Aim → Candidate → Bool
-reaches h aim c =
-    is_at_least aim.level
-    (level_for aim.counted c.state.user (step_given h.checked.now h.directory.now h.host.now h.groups.now c.state aim.state))
-
-abbrev pub found_by : HostSteps → Aim → Candidate → Found
-found_by h aim c = record { state = c.state; steps = aim.steps; next = Some aim.index; given = step_on h c.state aim.state }
-
--- a found state as an aim
-abbrev pub aim_of : Sought → Level → ℕ → Found → Aim
-aim_of q l i f = record { index = i; state = f.state; level = l; counted = q.counted; steps = f.steps + 1 }
-
--- found states as aims, the first one by this index
-abbrev pub aims_from : Sought → Level → ℕ → List Found → List Aim
-aims_from q l i [] = []
-aims_from q l i (f ∷ fs) = aim_of q l i f ∷ aims_from q l (i + 1) fs
-
--- the found states from the n-th on as aims
-abbrev pub aims_at : Sought → Level → ℕ → List Found → List Aim
-aims_at q l n found = aims_from q l n (drop n found)
-
--- the candidate as it is found by the first of the aims to which it has a step, if it has one
-abbrev pub first_of : HostSteps → List Aim → Candidate → Option Found
-first_of h [] c = None
-first_of h (aim ∷ aims) c = if reaches h aim c then Some (found_by h aim c) else first_of h aims c
 
 -- what steps to the state of an aim depend on
 abbrev pub any_toward : AnyToward → Toward

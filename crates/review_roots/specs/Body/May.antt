@@ -1,5 +1,5 @@
 -- What rows may give at best, where it is not known which blocks stand; only proofs of bodies need these definitions.
-use Rattle.std.specs.Prelude.{ℕ, Bool, true, false, ◌||◌, ◌==◌, if◌then◌else◌, List, fold, slice_get, Option, Some, None}
+use Rattle.std.specs.Prelude.{ℕ, Bool, true, false, ◌||◌, if◌then◌else◌, List, fold, slice_get, Option, Some, None}
 use Rattle.std.specs.List.{slice_index_or}
 use Rattle.review_roots.specs.declared.block.Block.{Block}
 use Rattle.review_roots.specs.declared.effect.Effect.{Effect}
@@ -44,15 +44,12 @@ abbrev pub may_for : Counted → May → Level
 may_for counted.Any m = m.level
 may_for counted.Unasked m = m.unasked
 may_for counted.Free m = if m.free then m.level else level.None
-may_for (counted.Own owner) m = m.level
 
 -- a step that counts may have the least level, whichever of the blocks for the host stand that list the user
 abbrev pub may_reach : List Bool → List Block → Level → Counted → List ℕ → Bool
 may_reach on bs least k listed = is_at_least least (may_for k (fold (may_at on bs) may_nothing listed))
 
--- the same of a user, where that is not looked up if all of its steps count
-abbrev pub may_count : List Bool → List Block → Level → Counted → ℕ → List ℕ → Bool
-may_count on bs least counted.Any user listed = true
-may_count on bs least counted.Unasked user listed = may_reach on bs least counted.Unasked listed
-may_count on bs least counted.Free user listed = may_reach on bs least counted.Free listed
-may_count on bs least (counted.Own owner) user listed = (user == owner) || may_reach on bs least counted.Unasked listed
+-- the same, where that is not looked up if all steps count
+abbrev pub may_count : List Bool → List Block → Level → Counted → List ℕ → Bool
+may_count on bs least counted.Any listed = true
+may_count on bs least k listed = may_reach on bs least k listed

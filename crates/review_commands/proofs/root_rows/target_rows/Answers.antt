@@ -1,5 +1,6 @@
-use Rattle.std.proofs.Common.{◌∙◌, List, ap, flat_map, refl, subst}
+use Rattle.std.proofs.Common.{◌∙◌, List, ap, flat_map, refl, subst, sym}
 use Rattle.audit_files.specs.Report.{line}
+use Rattle.review_roots.specs.AddableGroups.{AreAddable}
 use Rattle.review_roots.specs.Roots.{AreRoots}
 use Rattle.review_commands.specs.RootRows.{root_fields}
 use Rattle.review_commands.proofs.RootSteps.{if-ok}
@@ -14,7 +15,7 @@ returns c =
       policy_is = c.requires.policy;
       directory_is = c.requires.directory;
       host_is = refl;
-      groups_are = c.requires.groups ∙ t.grouped;
+      groups_are = subst (AreAddable t.checked.now t.directory.now) (sym c.requires.groups) t.grouped;
       roots = c.in_ok-roots.roots.items;
       are = subst (λ l. AreRoots h c.args.target l c.in_ok-roots.roots.items) c.requires.least c.in_ok-roots.ensures;
       text_is = is
@@ -22,5 +23,5 @@ returns c =
           rs)
           c.deref.ensures.value
           ∙ ap (λ (gs : List _). flat_map (λ r. line (root_fields t.checked.now t.directory.now gs h.host.now c.args.target r))
-          c.in_ok-roots.roots.items) t.grouped;
+          c.in_ok-roots.roots.items) (sym c.requires.groups);
     }) c.rows_text.ensures

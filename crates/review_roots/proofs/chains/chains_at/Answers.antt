@@ -1,6 +1,6 @@
 use Rattle.std.proofs.Common.{◌∙◌, List, Option, ap, length, subst, sym, ℕ}
 use Rattle.review_roots.specs.declared.search.Found.{Found}
-use Rattle.review_roots.specs.Body.Found.{AreStarts, HaveNoChain, IsTurning}
+use Rattle.review_roots.specs.Body.Found.{AreStarts, AreTurned, HaveNoChain}
 use Rattle.review_roots.specs.Sought.{any_steps, free_steps, unasked_steps}
 use Rattle.review_roots.proofs.PathLemmas.{starts-chainless}
 use Rattle.review_roots.proofs.SearchLemmas.{point-back}
@@ -28,6 +28,7 @@ returns-clause-lead c =
     let l = c.args.level in
     let people = ap length c.people-users.ensures in
     let starts = c.in_ok-any_starts.any_starts.items in
+    let turned = c.in_ok-turned.turned.items in
     record {
       level = c.requires.level;
       any = c.requires.any;
@@ -51,8 +52,13 @@ returns-clause-lead c =
         free_starts = subst (λ xs. AreStarts xs c.in_ok-free_starts.free_starts.items) c.deref-5.ensures.value
             c.in_ok-free_starts.ensures.starts;
         free_users = c.in_ok-free_starts.ensures.known ∙ people;
+        turned_starts = subst (λ xs. AreStarts xs c.in_ok-turned_starts.turned_starts.items) c.deref-9.ensures.value
+            c.in_ok-turned_starts.ensures.starts;
+        turned_users = c.in_ok-turned_starts.ensures.known ∙ people;
       };
-      turning = subst (λ (xs : List Found). IsTurning h c.args.target l starts xs c.in_ok-turning.turning) c.deref-7.ensures.value
-          (subst (λ (ss : List (Option ℕ)). IsTurning h c.args.target l ss c.deref-7.result.now c.in_ok-turning.turning)
-          c.deref-6.ensures.value c.in_ok-turning.ensures);
+      turned = subst (λ (us : List (Option ℕ)). AreTurned h c.args.target l starts c.in_ok-unasked.unasked.items us turned)
+          c.deref-8.ensures.value
+          (subst (λ (xs : List Found). AreTurned h c.args.target l starts xs c.deref-8.result.now turned) c.deref-7.ensures.value
+          (subst (λ (ss : List (Option ℕ)). AreTurned h c.args.target l ss c.deref-7.result.now c.deref-8.result.now turned)
+          c.deref-6.ensures.value c.in_ok-turned.ensures));
     }

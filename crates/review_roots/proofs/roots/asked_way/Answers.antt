@@ -23,4 +23,4 @@ returns-in-Some c =
     (chosen h c.args.target c.args.level c.requires.lead.level c.args.user c.requires.known
     (record { target = c.args.target; counted = counted.Unasked }) c.deref-in-Some.result.now found c.in-Some.index w is.1
     c.deref-in-Some.ensures.value c.requires.lead.unasked c.requires.lead.unasked_order at))
-    c.way_of.ensures
+    c.way_of.ensures.chain
