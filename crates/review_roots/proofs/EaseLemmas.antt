@@ -284,9 +284,3 @@ module _ (h : HostSteps) (own : State → Bool) (target : ℕ) (l : Level) where
       go (inl more) = omega (arith, more)
       go (inr most) = absurd (none (length ts)
           (chains-are-paths State (unasked_steps h target) l s ts inside leading.inside (unasked-leads s ts leading.leads most)))
-
-pub rank-most : (p : Password) → password_rank p ≤ 3
-rank-most password.None = omega arith
-rank-most password.Maybe = omega arith
-rank-most password.Own = omega arith
-rank-most password.Other = omega arith

@@ -311,16 +311,6 @@ range-ends g a b k is no_end e =
     no_end
     ∙ ap (λ x. holds_of (λ next. is_rest true g next k) (cond x (Some phases.Ranged) None)) is) ∙ e
 
-abbrev after_member : ℕ → ℕ → Option Phase
-after_member a b =
-    cond (b == 45) (Some (phases.Range a))
-    (cond (b == 93) (Some phases.Piece) (cond (is_member b) (Some (phases.Member b)) None))
-
-abbrev after_range : ℕ → Option Phase
-after_range b =
-    cond (b == 45) (Some phases.Dash)
-    (cond (b == 93) (Some phases.Piece) (cond (is_member b) (Some (phases.Member b)) None))
-
 -- behind a member that is neither `-` nor `]`
 past :
     (g b : ℕ) (k : List ℕ) {p : Phase} → Behind p → (b == 45) ≡ false → (b == 93) ≡ false → is_rest true g p (b ∷ k) ≡ true →

@@ -147,9 +147,6 @@ tail-text : (p o m x : List ℕ) (c : ℕ) → (p ++ (o ++ (m ++ x))) ++ c ∷ [
 tail-text p o m x c = simp append_assoc
 
 module _ (inside : Bool) (k : List ℕ) (next : Next inside k) {g : ℕ} (s : Groups g) (bs : List (Expression Branch)) where
-  abbrev before_it : List ℕ
-  before_it = groups_text s
-
   abbrev Reads : List ℕ → ℕ → Type 0
   Reads t c = IsRead ((groups_text s ++ (branches_text bs ++ t)) ++ c ∷ k)
 
