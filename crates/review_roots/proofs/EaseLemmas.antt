@@ -179,7 +179,7 @@ asked-own false true o e = omega arith
 asked-own false false true e = omega arith
 asked-own false false false e = cc
 
--- a step from a state that asks for one's own asks for no more
+-- a step from one's own state asks for one's own password at most
 pub own-most : (a : Given) (own : Bool) → own ≡ true → password_rank (asked_by a own) ≤ 2
 own-most a own is = asked-own a.free a.unasked own is
 
@@ -253,7 +253,7 @@ module _ (h : HostSteps) (own : State → Bool) (target : ℕ) (l : Level) where
   little-leads counted.Unasked s ts leads most = unasked-leads s ts leads most
   little-leads counted.Free s ts leads most = free-leads s ts leads most
 
-  -- a step from a state of others that asks for no more than one's own may go without a password
+  -- a step from another state that asks for one's own password at most may go without a password
   pub step-unasked :
       (s t : State) → own s ≡ false → password_rank (asked_by (step_on h s t) (own s)) ≤ 2 → is_at_least l (step_on h s t).level ≡ true →
       is_at_least l (cond (step_on h s t).unasked (step_on h s t).level level.None) ≡ true

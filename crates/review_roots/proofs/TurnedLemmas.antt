@@ -43,12 +43,13 @@ use Rattle.review_roots.proofs.MemberLemmas.{from-filter}
 use Rattle.review_roots.proofs.OrderLemmas.{behind-itself, behind-trans, from-picked, to-picked}
 use Rattle.review_roots.proofs.PathLemmas.{HasWithin, alike-turn, itself, kept-path, plain-path, step-same}
 use Rattle.review_roots.proofs.RootLemmas.{start-is, starts, states-have}
-use Rattle.review_roots.proofs.SearchLemmas.{at-contains, at-least-itself, at-least-trans, contains-at, from-map, get-append, in-filter}
+use Rattle.review_roots.proofs.SearchLemmas.{at-contains, at-least-itself, at-least-trans, contains-at}
+use Rattle.review_roots.proofs.SearchLemmas.{from-map, get-append, in-filter, point-back}
 use Rattle.review_roots.proofs.StartLemmas.{start-of}
 
 -- ---- The chain of a found state
 
--- the chain of one of the first of the found states is among these
+-- a chain that begins among the first found states stays among these
 along-first :
     (found others : List Found) (i : ℕ) (chain : List State) → PointBack found → i < length found → IsAlong (found ++ others) i chain →
     IsAlong found i chain
@@ -61,7 +62,7 @@ along-first found others i (s ∷ ss) back within (f, next, t, at, is, to, this,
     (f, next, t, here, is, there, this, along-first found others next ss back inside along)
 
 module _ (g : Steps State) (states : List State) (l : Level) (found : List Found) (are : AreFound g states l found) where
-  -- it leads to the goal, and has as many steps as the found state
+  -- the chain of a found state leads to the goal, with as many steps as the state counts
   along-leads :
       (i : ℕ) (f : Found) (chain : List State) → slice_get found i ≡ Some f → IsAlong found i chain →
       LeadsAlong g l f.state chain × (f.steps ≡ length chain)
@@ -83,7 +84,7 @@ module _ (g : Steps State) (states : List State) (l : Level) (found : List Found
         omega (arith, steps, tail),
       )
 
-  -- its states are those of the steps
+  -- the states of that chain are states of the steps
   along-inside : (i : ℕ) (chain : List State) → IsAlong found i chain → All (Contains g.states) chain
   along-inside i [] along = All-nil (Contains g.states)
   along-inside i (s ∷ ss) (f, next, t, at, is, to, this, along) =
@@ -186,7 +187,7 @@ module _
         go (inl leads) = absurd (none (length ts)
             (chains-are-paths State (unasked_steps h target) l start ts start-state leading.inside leads))
 
-    -- a found state to which a step leads, with as few steps, that does not go behind another state
+    -- the user has a step to a found state with at most n steps that does not go behind the given state
     record IsReached (to : State) (n : ℕ) : Type 0 where
       at : ℕ
       by : Found
@@ -306,7 +307,7 @@ module _
                   let steps = ap (λ (x : Found). x.steps) one in
                   omega (arith, steps)
 
-          -- of those that have as few it does not go behind another
+          -- among those with as few steps it is the first
           not-behind : (to : State) (n : ℕ) (e : IsReached to n) → e.by.steps ≡ r.aim.steps → is_gt (state_cmp d r.aim.state to) ≡ false
           not-behind to n e steps =
               behind-trans d r.aim.state e.by.state to (go (cases_lt e.at r.at) (cases_lt r.at e.at)) e.before
@@ -413,7 +414,7 @@ module _
         way-turned w leveled best traced = go (fresh-of i f at begins) w.chain.items refl traced.along
           where
             back : PointBack found
-            back i next f at is = (subst (IsLinked (unasked_steps h target) l found i f) is (are.linked i f at)).1.before
+            back = point-back (unasked_steps h target) l found are.linked
 
             go :
                 (c : Candidate) × IsFresh h any_q l 0 found c f → (chain : List State) → w.chain.items ≡ chain → IsAlong turned i chain →
@@ -563,7 +564,7 @@ module _ (h : HostSteps) (target : ℕ) (l : Level) (found turned : List Found) 
           let c = from-picked ones those f (at-contains (filter_map ones those) f k there) in
           fresh c.0 (pick-some h (any_sought target) l 0 found c.0 f c.1.1) (omega (arith, past))
 
--- what holds of a result and what else holds of it
+-- two properties of a result give a third one
 pub if-both :
     {X E : Type 0} (r : Result X E) (P Q S : X → Type 0) → IfOk r P → IfOk r Q → ((x : X) → P x → Q x → S x) → IfOk r S
 if-both (Ok x) P Q S p q both = both x p q

@@ -4,7 +4,7 @@ use Rattle.std.proofs.Common.{List, [], ◌∷◌, ◌++◌, ap, append-nil, app
 use Rattle.std.proofs.Common.{Option, Some, None}
 use Rattle.std.specs.Prelude.{All, codes, drop, nat_le, nat_lt, reverse, slice_index, take, take_while}
 use Rattle.std.specs.List.{list_any, list_all, prefix_len}
-use Rattle.std.proofs.lemmas.Bool.{and_parts, eqb-true, eq-eqb, leb-true}
+use Rattle.std.proofs.lemmas.Bool.{and_parts, eqb-true, eq-eqb, leb-true, not-true}
 use Rattle.std.proofs.lemmas.List.{drop-append-le, drop_all, length-reverse, reverse-append, reverse-reverse, take-append-drop}
 use Rattle.std.proofs.lemmas.List.Elements.{All-head, All-tail, All-weaker}
 use Rattle.std.proofs.lemmas.List.Folds.{list_any-append}
@@ -27,14 +27,10 @@ neither : (a b : Bool) → (a || b) ≡ false → (a ≡ false) × (b ≡ false)
 neither false b e = (refl, e)
 neither true b e = cc
 
-not-true : (b : Bool) → not b ≡ true → b ≡ false
-not-true false e = refl
-not-true true e = cc
-
 true-not : (b : Bool) → b ≡ true → b ≡ false → ⊥
 true-not b t f = let bad : true ≡ false = sym t ∙ f in cc
 
--- a byte that stands for itself is none of the others
+-- a literal byte is no metacharacter
 record IsPlain (b : ℕ) : Type 0 where
   no_open : (b == 40) ≡ false
   no_close : (b == 41) ≡ false
@@ -89,7 +85,7 @@ outside-of by_repetition = at_repeated
 abbrev Rest : ℕ → Phase → List ℕ → Type 0
 Rest g p text = is_rest true g p text ≡ true
 
--- what is left of the test on a byte outside of brackets that is none of `. | ( )`
+-- the last case of `is_rest` outside brackets: the byte is neither `.` nor `|` nor a parenthesis
 under :
     (dot bar opens close top : Bool) (X Y Z V : Bool) → dot ≡ false → bar ≡ false → opens ≡ false → close ≡ false →
     cond ((dot || (bar && top)) || false) false (cond opens X (cond close Y (cond bar Z V))) ≡ true → V ≡ true
@@ -99,7 +95,7 @@ under false true opens close top X Y Z V a b c d e = cc
 under false false true close top X Y Z V a b c d e = cc
 under false false false true top X Y Z V a b c d e = cc
 
--- such a byte, behind each phase
+-- such a byte leaves the test to `phase_after`
 behind :
     (g : ℕ) {p : Phase} (b : ℕ) (k : List ℕ) → Outside p → (b == 46) ≡ false → (b == 124) ≡ false → (b == 40) ≡ false →
     (b == 41) ≡ false → Rest g p (b ∷ k) → holds_of (λ next. is_rest true g next k) (phase_after p b) ≡ true
@@ -118,7 +114,7 @@ no-repetition b star plus mark = go (b == 42) (b == 43) (b == 63) star plus mark
     go true y z a c d = cc
     go false true z a c d = cc
 
--- a byte that repeats nothing begins a piece behind each of them
+-- outside brackets a byte that is no repetition begins a piece
 begins :
     {p : Phase} (b : ℕ) → Outside p → (b == 42) ≡ false → (b == 43) ≡ false → (b == 63) ≡ false → phase_after p b ≡ piece_after b
 begins b at_start star plus mark = refl
@@ -132,7 +128,7 @@ literal-piece b lit bracket escape =
     ∙ ap (λ x. cond x (Some phases.Escaped) (cond (is_literal b) (Some phases.Piece) None)) escape
     ∙ ap (λ x. cond x (Some phases.Piece) None) lit
 
--- behind a byte that stands for itself
+-- a literal byte ends a piece
 rest-byte :
     (g : ℕ) {p : Phase} (b : ℕ) (k : List ℕ) → Outside p → is_literal b ≡ true → (b == 46) ≡ false → Rest g p (b ∷ k) →
     Rest g phases.Piece k
@@ -142,7 +138,7 @@ rest-byte g b k out lit no_dot e =
     (begins b out n.no_star n.no_plus n.no_mark ∙ literal-piece b lit n.no_bracket n.no_escape))
     ∙ behind g b k out no_dot n.no_bar n.no_open n.no_close e
 
--- behind a byte that is one of few
+-- an escaped sign ends a piece
 rest-sign : (g : ℕ) {p : Phase} (b : ℕ) (k : List ℕ) → Outside p → is_sign b ≡ true → Rest g p (92 ∷ b ∷ k) → Rest g phases.Piece k
 rest-sign g b k out is e =
     escaped (sym (ap (holds_of (λ next. is_rest true g next (b ∷ k))) (begins 92 out refl refl refl))
@@ -182,7 +178,7 @@ rest-bar : (g : ℕ) {p : Phase} (k : List ℕ) → Ended p → Rest (suc g) p (
 rest-bar g k by_piece e = sym (ap (λ b. cond (b || false) false (is_rest true (suc g) phases.Start k)) (some-open g)) ∙ e
 rest-bar g k by_repetition e = sym (ap (λ b. cond (b || false) false (is_rest true (suc g) phases.Start k)) (some-open g)) ∙ e
 
--- a branch outside of groups has no other behind it
+-- outside groups no second branch is read
 rest-top : {p : Phase} (k : List ℕ) → Outside p → Rest 0 p (124 ∷ k) → ⊥
 rest-top k at_start e = cc
 rest-top k at_piece e = cc
@@ -202,7 +198,7 @@ rest-again g b k is e = go (b == 42) refl (b == 43) refl (b == 63) refl
 
 -- ---- Brackets
 
--- a byte that stands for itself between brackets is neither `-`, `]` nor `^`
+-- a literal byte between brackets is neither `-` nor `]` nor `^`
 record IsInner (b : ℕ) : Type 0 where
   no_dash : (b == 45) ≡ false
   no_end : (b == 93) ≡ false
@@ -253,7 +249,7 @@ between a b e = record {
         absurd (true-not (((is_digit a && is_digit b) || (is_lower a && is_lower b)) || (is_upper a && is_upper b)) both.1
         (ap (λ x. (x || (is_lower a && is_lower b)) || (is_upper a && is_upper b)) i ∙ ap (λ y. y || (is_upper a && is_upper b)) j ∙ l))
 
--- none of its bytes is a sign that ends or parts members, or a slash
+-- neither bound of a range is a byte below the digits, or one between the upper-case and the lower-case letters
 no-sign : (a b n : ℕ) → IsBetween a b → (n < 48) ⊎ ((90 < n) × (n < 97)) → ((a == n) ≡ false) × ((b == n) ≡ false)
 no-sign a b n is sign = (apart a (λ e. far (inl e)), apart b (λ e. far (inr e)))
   where
@@ -285,7 +281,7 @@ no-sign a b n is sign = (apart a (λ e. far (inl e)), apart b (λ e. far (inr e)
         by (inr e) (inr (inr (low, high))) (inl less) = omega (arith, rises, e, low, high, less)
         by (inr e) (inr (inr (low, high))) (inr (more, less)) = omega (arith, rises, e, low, high, more, less)
 
--- a phase behind a member
+-- the phases behind a member
 data Behind : Phase → Type 0 where
   of_byte : {a : ℕ} → Behind (phases.Member a)
   of_range : Behind phases.Ranged
@@ -293,7 +289,7 @@ data Behind : Phase → Type 0 where
 abbrev Holds : ℕ → List ℕ → Option Phase → Type 0
 Holds g k o = holds_of (λ next. is_rest true g next k) o ≡ true
 
--- behind a byte that a range may begin with, if it may stand there
+-- the phase behind a literal byte between brackets
 range-begins :
     (g a : ℕ) (k : List ℕ) → Holds g k (cond (is_member a) (Some (phases.Member a)) None) → is_rest true g (phases.Member a) k ≡ true
 range-begins g a k e = go (is_member a) e
@@ -302,7 +298,7 @@ range-begins g a k e = go (is_member a) e
     go true e = e
     go false e = cc
 
--- behind the `-` of a range and its last byte
+-- the phase behind a range
 range-ends :
     (g a b : ℕ) (k : List ℕ) → is_range a b ≡ true → (b == 93) ≡ false → is_rest true g (phases.Member a) (45 ∷ b ∷ k) ≡ true →
     is_rest true g phases.Ranged k ≡ true
@@ -311,7 +307,7 @@ range-ends g a b k is no_end e =
     no_end
     ∙ ap (λ x. holds_of (λ next. is_rest true g next k) (cond x (Some phases.Ranged) None)) is) ∙ e
 
--- behind a member that is neither `-` nor `]`
+-- the byte behind a member, unless it is `-` or `]`, is a literal one
 past :
     (g b : ℕ) (k : List ℕ) {p : Phase} → Behind p → (b == 45) ≡ false → (b == 93) ≡ false → is_rest true g p (b ∷ k) ≡ true →
     Holds g k (cond (is_member b) (Some (phases.Member b)) None)
@@ -326,7 +322,7 @@ past g b k of_range no_dash no_end e =
     ∙ ap (λ x. holds_of (λ next. is_rest true g next k) (cond x (Some phases.Piece) (cond (is_member b) (Some (phases.Member b)) None)))
     no_end) ∙ e
 
--- the members that are left, and the end of the brackets
+-- the remaining members and the closing bracket end a piece
 members-end :
     (g : ℕ) (ms : List Member) (dash : Bool) (k : List ℕ) {p : Phase} → Behind p →
     is_rest true g p (flat_map member_text ms ++ (end_text dash ++ k)) ≡ true → Rest g phases.Piece k
@@ -348,7 +344,7 @@ members-end g (Each a b is ∷ ms) dash k behind e =
     (past g a (45 ∷ b ∷ rest) behind (no-sign a b 45 way (inl (omega arith))).0
     (no-sign a b 93 way (inr (omega arith, omega arith))).0 e)))
 
--- the first member of brackets whose members are not left out
+-- the first member of brackets that are not negated
 first-member :
     (g b : ℕ) (k : List ℕ) → (b == 94) ≡ false → is_rest true g phases.Opened (b ∷ k) ≡ true →
     Holds g k (cond (is_member b) (Some (phases.Member b)) None)
@@ -370,7 +366,7 @@ opened g (Each a b is) ms dash k e =
     (range-begins g a (45 ∷ b ∷ rest)
     (first-member g a (45 ∷ b ∷ rest) (no-sign a b 94 way (inr (omega arith, omega arith))).0 e)))
 
--- brackets whose members are left out do not stand where a folder is not left
+-- negated brackets are refused where an expression may not leave its folder
 not-negated : (g : ℕ) (m : Member) (k : List ℕ) → is_rest true g phases.Opened (94 ∷ (member_text m ++ k)) ≡ true → ⊥
 not-negated g (One b is) k e = cc
 not-negated g (Each a b is) k e = cc
@@ -380,12 +376,12 @@ rest-brackets g k at_start e = e
 rest-brackets g k at_piece e = e
 rest-brackets g k at_repeated e = e
 
--- ---- What an expression fits that has no slash and leaves no folder
+-- ---- Expressions without a slash that leave no folder
 
 abbrev Clean : {part : Part} → Expression part → Type 0
 Clean e = (text : List ℕ) → Fits e text → has_slash text ≡ false
 
--- what is known behind an expression: an atom may be repeated
+-- the phase behind each part: only an atom may be repeated
 abbrev After : Part → ℕ → List ℕ → Type 0
 After Atom g k = Rest g phases.Piece k
 After Piece g k = (p : Phase) × (Ended p × Rest g p k)
@@ -405,7 +401,7 @@ all-clean (t ∷ ts) all =
     both-clean t (flat_map (λ t. t) ts) (All-head (λ t. has_slash t ≡ false) t ts all)
     (all-clean ts (All-tail (λ t. has_slash t ≡ false) t ts all))
 
--- a member without a slash has none
+-- a member whose text has no slash fits none
 member-clean : (m : Member) → has_slash (member_text m) ≡ false → member_has 47 m ≡ false
 member-clean (One b is) e = go (47 == b) refl
   where
@@ -515,7 +511,7 @@ OfPath b = is_path_byte b ≡ true
 abbrev AllOfPath : List ℕ → Type 0
 AllOfPath fs = list_all is_path_byte fs ≡ true
 
--- a byte of the folder that begins an atom is all of it
+-- an atom that begins with a byte of the folder is that byte
 record IsFirst (a : Expression Atom) (f : ℕ) (k xs : List ℕ) : Type 0 where
   rest : k ≡ xs
   fits : (text : List ℕ) → Fits a text → text ≡ f ∷ []
@@ -535,7 +531,7 @@ first-byte (Brackets false m ms dash) k f xs e path =
 first-byte (Group r) k f xs e path =
     let same : 40 ≡ f = cc in absurd (let bad : is_path_byte 40 ≡ true = ap is_path_byte same ∙ path in cc)
 
--- nothing of the folder is repeated
+-- no byte of the folder is repeated
 not-again :
     (b : ℕ) (k fs rest : List ℕ) → is_repetition b ≡ true → AllOfPath fs → Rest 0 phases.Start rest → b ∷ k ≡ fs ++ rest → ⊥
 not-again b k fs rest is path start e = go (b == 42) refl (b == 43) refl (b == 63) refl
@@ -557,7 +553,7 @@ not-again b k fs rest is path start e = go (b == 42) refl (b == 43) refl (b == 6
     go false i false j true l = at 63 (eqb-true b 63 l) refl (λ t. refl)
     go false i false j false l = true-not (is_repetition b) is (no-repetition b i j l)
 
--- what may stand behind a branch outside of groups: nothing, or another branch
+-- the text behind a branch outside groups: none, or `|` and further branches
 data EndsBranch : List ℕ → Type 0 where
   by_end : EndsBranch []
   by_bar : {k : List ℕ} → EndsBranch (124 ∷ k)
@@ -573,7 +569,7 @@ not-there (f ∷ fs) rest (by_bar {k}) path start e =
     let bad : is_path_byte 124 ≡ true =
     ap is_path_byte same ∙ (and_parts (is_path_byte f) (list_all is_path_byte fs) path).0 in cc
 
--- a text that a branch fits is the folder with a name behind it
+-- each text that the branch fits is the folder followed by a name without a slash
 abbrev IsBelow : List ℕ → Expression Branch → Type 0
 IsBelow fs b = (text : List ℕ) → Fits b text → (name : List ℕ) × ((text ≡ fs ++ name) × (has_slash name ≡ false))
 

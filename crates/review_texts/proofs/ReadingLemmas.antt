@@ -1,4 +1,4 @@
--- Each text that is read as an expression is that of one: byte by byte, with the groups that are open.
+-- Each text that `is_expression` accepts is the text of an expression: by induction over its bytes, with a stack of the open groups.
 use Rattle.std.proofs.Common.{◌≡◌, ◌-◌, ◌∙◌, ◌⊎◌, inl, inr, ◌&&◌, ◌==◌, ℕ, zero, suc, Bool, true, false, cond}
 use Rattle.std.proofs.Common.{List, [], ◌∷◌, ◌++◌, ap, append-nil, append_assoc, flat_map, refl, subst, sym, Option, Some, None}
 use Rattle.std.specs.Prelude.{length, nat_le, nat_lt}
@@ -11,7 +11,7 @@ use Rattle.review_texts.specs.Meaning.{EachIsExpression, Expression, Member, Ato
 use Rattle.review_texts.specs.Meaning.{Any, Brackets, Byte, Each, Escaped, Group, Last, Once, One, Only, Or, Repeated, Then}
 use Rattle.review_texts.proofs.MeaningLemmas.{less-back, some-open}
 
--- ---- Branches and expressions of their parts
+-- ---- Building branches and expressions
 
 -- pieces, and a last one
 abbrev branch-of : List (Expression Piece) → Expression Piece → Expression Branch
@@ -41,7 +41,7 @@ whole-text (c ∷ cs) b =
     ∙ sym (append_assoc (text_of c) (124 ∷ branches_text cs) (text_of b))
     ∙ ap (λ t. t ++ text_of b) (sym (append_assoc (text_of c) (124 ∷ []) (branches_text cs)))
 
--- one more of each
+-- the text of a list with one more item
 pieces-more : (ps : List (Expression Piece)) (p : Expression Piece) → pieces_text (ps ++ p ∷ []) ≡ pieces_text ps ++ text_of p
 pieces-more [] p = append-nil (text_of p)
 pieces-more (q ∷ qs) p =
@@ -59,9 +59,9 @@ members-more [] m = append-nil (member_text m)
 members-more (n ∷ ns) m =
     ap (λ t. member_text n ++ t) (members-more ns m) ∙ sym (append_assoc (member_text n) (flat_map member_text ns) (member_text m))
 
--- ---- What is read of the part that is open
+-- ---- The innermost open group, or the whole expression, so far
 
--- the brackets so far
+-- the beginning of brackets, negated or not
 abbrev opening : Bool → List ℕ
 opening true = 91 ∷ 94 ∷ []
 opening false = 91 ∷ []
@@ -78,7 +78,7 @@ data Reading : Phase → Type 0 where
   range_read : List (Expression Piece) → Bool → List Member → (a b : ℕ) → is_range a b ≡ true → Reading phases.Ranged
   last_dash : List (Expression Piece) → Bool → List Member → (a b : ℕ) → is_range a b ≡ true → Reading phases.Dash
 
--- the text of what is read
+-- the bytes of the current branch that have been read
 abbrev read_text : {p : Phase} → Reading p → List ℕ
 read_text at_start = []
 read_text (atom_read ps a) = pieces_text ps ++ text_of a
@@ -111,7 +111,7 @@ IsRead text = (e : Expression Whole) × (text_of e ≡ text)
 abbrev Holds : Bool → ℕ → List ℕ → Option Phase → Type 0
 Holds inside g k o = holds_of (λ next. is_rest inside g next k) o ≡ true
 
--- what the rest of a text is read as, behind any reading
+-- from each reading the rest of the text completes an expression
 abbrev Next : Bool → List ℕ → Type 0
 Next inside k =
     (g : ℕ) (p : Phase) (s : Groups g) (bs : List (Expression Branch)) (x : Reading p) → is_rest inside g p k ≡ true →
@@ -120,7 +120,7 @@ Next inside k =
 grown-text : (a b t k : List ℕ) (c : ℕ) → (a ++ (b ++ (t ++ c ∷ []))) ++ k ≡ (a ++ (b ++ t)) ++ c ∷ k
 grown-text a b t k c = simp append_assoc
 
--- the reading has a byte more
+-- a reading with one more byte
 grown :
     (a b t now k : List ℕ) (c : ℕ) → now ≡ t ++ c ∷ [] → IsRead ((a ++ (b ++ now)) ++ k) → IsRead ((a ++ (b ++ t)) ++ c ∷ k)
 grown a b t now k c is r = (r.0, r.1 ∙ ap (λ u. (a ++ (b ++ u)) ++ k) is ∙ grown-text a b t k c)
@@ -198,7 +198,7 @@ module _ (inside : Bool) (k : List ℕ) (next : Next inside k) {g : ℕ} (s : Gr
       ∙ append_assoc (flat_map member_text ms) (member_text m) (end_text dash))))
       e
 
-  -- a byte that stands for itself behind a member
+  -- a literal byte behind a member
   one-more :
       (ps : List (Expression Piece)) (negated : Bool) (ms : List Member) (m : Member) (t : List ℕ) (c : ℕ) →
       t ++ c ∷ [] ≡ pieces_text ps ++ (opening negated ++ (flat_map member_text ms ++ (member_text m ++ c ∷ []))) →
@@ -313,7 +313,7 @@ either false false true r x y z v e = inr (inl (refl, e))
 either false false false true x y z v e = inr (inr (inl (refl, e)))
 either false false false false x y z v e = inr (inr (inr e))
 
--- the pieces of what is read, the last one by itself
+-- the current branch may end: its pieces, with the last one apart
 record IsEnded (t : List ℕ) : Type 0 where
   front : List (Expression Piece)
   final : Expression Piece
@@ -377,7 +377,7 @@ module _ (inside : Bool) (k : List ℕ) (next : Next inside k) where
             ∙ bar-text (groups_text s) (branches_text bs) t k,
       )
 
-  -- a byte outside of brackets, by what else it may be
+  -- a byte outside brackets: a parenthesis, `|`, or one that continues the piece
   outer :
       {g : ℕ} (s : Groups g) (bs : List (Expression Branch)) (t : List ℕ) (ps : List (Expression Piece)) → t ≡ pieces_text ps →
       (ends : Bool) → (ends ≡ true → IsEnded t) → (l v : Bool) (c : ℕ) → (v ≡ true → IsRead (Whole-text s bs t c)) →
@@ -405,7 +405,7 @@ module _ (inside : Bool) (k : List ℕ) (next : Next inside k) where
           subst (λ n. IsRead (Whole-text s bs t n)) (sym (eqb-true c 124 at)) (bars s bs t (fin both.0) both.1)
       go (inr (inr (inr e))) = other e
 
-  -- a byte behind what is read
+  -- each reading takes the next byte
   step :
       (g : ℕ) {p : Phase} (s : Groups g) (bs : List (Expression Branch)) (x : Reading p) (c : ℕ) →
       is_rest inside g p (c ∷ k) ≡ true → IsRead (so_far s bs x ++ c ∷ k)

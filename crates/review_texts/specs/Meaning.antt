@@ -1,5 +1,5 @@
--- What the regular expressions mean that are read: regex(7), "DESCRIPTION". An expression has branches with `|` between them, a branch
--- has pieces one behind the other, and a piece is an atom, repeated or not.
+-- The meaning of the regular expressions that are read: regex(7), "DESCRIPTION". An expression is a list of branches, separated by `|`; a
+-- branch is a sequence of pieces; a piece is an atom, repeated or not.
 use Rattle.std.specs.Prelude.{◌≡◌, ◌++◌, ◌⊎◌, ℕ, Bool, true, false, not, ◌&&◌, ◌||◌, ◌==◌, nat_le}
 use Rattle.std.specs.Prelude.{if◌then◌else◌, List, [], ◌∷◌, All, flat_map, length}
 use Rattle.std.specs.List.{list_any}
@@ -20,8 +20,8 @@ pub data Member : Type 0 where
   One : (b : ℕ) → is_member b ≡ true → Member
   Each : (a b : ℕ) → is_range a b ≡ true → Member
 
--- an atom is a byte that stands for itself, one behind a backslash, `.`, brackets, or a group; brackets may leave their members out,
--- and have a `-` behind these
+-- an atom is a literal byte, an escaped sign, `.`, brackets or a group; brackets may be negated, and a literal `-` may stand behind their
+-- members
 pub data Expression : Part → Type 0 where
   Byte : (b : ℕ) → is_literal b ≡ true → (b == 46) ≡ false → Expression Atom
   Escaped : (b : ℕ) → is_sign b ≡ true → Expression Atom
@@ -35,13 +35,13 @@ pub data Expression : Part → Type 0 where
   Only : Expression Branch → Expression Whole
   Or : Expression Branch → Expression Whole → Expression Whole
 
--- ---- How one is text_of
+-- ---- The text of an expression
 
 abbrev pub member_text : Member → List ℕ
 member_text (One b is) = b ∷ []
 member_text (Each a b is) = a ∷ 45 ∷ b ∷ []
 
--- a `-` behind the members, and the end of the brackets
+-- the end of brackets, with a literal `-` before it or not
 abbrev pub end_text : Bool → List ℕ
 end_text dash = if dash then 45 ∷ 93 ∷ [] else 93 ∷ []
 
@@ -59,7 +59,7 @@ text_of (Then p b) = text_of p ++ text_of b
 text_of (Only b) = text_of b
 text_of (Or b e) = text_of b ++ 124 ∷ text_of e
 
--- ---- Which texts one fits
+-- ---- The texts that an expression fits
 
 abbrev pub member_has : ℕ → Member → Bool
 member_has c (One b is) = c == b
@@ -87,18 +87,18 @@ Fits (Then p b) text = (front back : List ℕ) × ((text ≡ front ++ back) × (
 Fits (Only b) text = Fits b text
 Fits (Or b e) text = Fits b text ⊎ Fits e text
 
--- ---- A law
+-- ---- Laws
 
 abbrev pub has_slash : List ℕ → Bool
 has_slash text = list_any (λ b. b == 47) text
 
--- each path that an expression below a folder fits is that of a file of the folder
+-- each path that an expression below a folder fits is the path of a file in that folder
 abbrev pub BoundsHold : Type 0
 BoundsHold =
     (e : Expression Whole) → is_below_folder (text_of e) ≡ true → (path : List ℕ) → Fits e path →
     (name : List ℕ) × ((path ≡ bound_of (text_of e) ++ name) × (has_slash name ≡ false))
 
--- each text that is read as one is that of an expression
+-- each text that `is_expression` accepts is the text of an expression
 abbrev pub EachIsExpression : Type 0
 EachIsExpression =
     (inside : Bool) (text : List ℕ) → is_expression inside text ≡ true → (e : Expression Whole) × (text_of e ≡ text)
