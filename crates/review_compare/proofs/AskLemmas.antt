@@ -19,7 +19,7 @@ use Rattle.review_compare.specs.declared.cell.Ask.{Ask}
 use Rattle.review_compare.specs.Cells.{Decider}
 use Rattle.review_compare.specs.declared.pair.Pair.{Pair}
 use Rattle.review_compare.specs.declared.spot.Listed.{Listed}
-use Rattle.review_compare.specs.Body.AskClasses.{AddsAsked, AreAsked, Decide, HaveAsk, IsAskClass, IsAskedWith}
+use Rattle.review_compare.specs.Body.AskClasses.{AddsAsked, AreAsked, Decide, HaveAsk, HaveIn, IsAskClass, IsAskedWith}
 use Rattle.review_compare.specs.Body.Classes.{AreSameBlocks}
 use Rattle.review_compare.specs.Body.Chosen.{HaveAllOf, chosen, deciders_at, host_at, runas_at, standing_among, user_at}
 use Rattle.review_compare.specs.Body.Near.{each_one, near_deciders}
@@ -191,7 +191,7 @@ alone-added ws w ask only has = record {
 
 -- ---- Classes
 
-decide-same : (p : Pair) (u : Person) (a : Ask) (l j : Listed) → AreSameBlocks j l → Decide p u a l → Decide p u a j
+pub decide-same : (p : Pair) (u : Person) (a : Ask) (l j : Listed) → AreSameBlocks j l → Decide p u a l → Decide p u a j
 decide-same p u a l j same decide = record {
   old = λ m. decide.old m
       ∙ ap (λ (is : List ℕ). chosen p.parts.old.items (filter (host_at p.old.checked.now p.old.blocks.items m) is)) (sym same.0);
@@ -229,36 +229,65 @@ asks-more asks n ask ks js less is so_far kept has a there =
     go (inl before) = kept a (so_far a before)
     go (inr here) = subst (HaveAsk js) here has
 
+-- asks that are among those of one of these
+module _ {K : Type 0} (asked : K → List AskedWith) where
+  pub kept-in : (ks : List K) (i : ℕ) (d k : K) → i < length ks → ((a : Ask) → AreAsked (asked (get_or ks i d)) a → AreAsked (asked k) a) →
+      (a : Ask) → HaveIn asked ks a → HaveIn asked (slice_set ks i k) a
+  kept-in [] i d k less kept a e = absurd e
+  kept-in (j ∷ ks) zero d k less kept a (inl here) = inl (kept a here)
+  kept-in (j ∷ ks) zero d k less kept a (inr more) = inr more
+  kept-in (j ∷ ks) (suc i) d k less kept a (inl here) = inl here
+  kept-in (j ∷ ks) (suc i) d k less kept a (inr more) = inr (kept-in ks i d k (omega (arith, less)) kept a more)
+
+  pub has-in : (ks : List K) (i : ℕ) (k : K) (a : Ask) → i < length ks → AreAsked (asked k) a → HaveIn asked (slice_set ks i k) a
+  has-in [] i k a less is = absurd (omega (arith, less))
+  has-in (j ∷ ks) zero k a less is = inl is
+  has-in (j ∷ ks) (suc i) k a less is = inr (has-in ks i k a (omega (arith, less)) is)
+
+  pub first-in : (ks : List K) (k : K) (a : Ask) → HaveIn asked ks a → HaveIn asked (ks ++ k ∷ []) a
+  first-in [] k a e = absurd e
+  first-in (j ∷ ks) k a (inl here) = inl here
+  first-in (j ∷ ks) k a (inr more) = inr (first-in ks k a more)
+
+  pub last-in : (ks : List K) (k : K) (a : Ask) → AreAsked (asked k) a → HaveIn asked (ks ++ k ∷ []) a
+  last-in [] k a is = inl is
+  last-in (j ∷ ks) k a is = inr (last-in ks k a is)
+
+  pub cases-in : (ks : List K) (k : K) (a : Ask) → HaveIn asked (ks ++ k ∷ []) a → HaveIn asked ks a ⊎ AreAsked (asked k) a
+  cases-in [] k a (inl here) = inr here
+  cases-in [] k a (inr none) = absurd none
+  cases-in (j ∷ ks) k a (inl here) = inl (inl here)
+  cases-in (j ∷ ks) k a (inr more) = go (cases-in ks k a more)
+    where
+      go : HaveIn asked ks a ⊎ AreAsked (asked k) a → HaveIn asked (j ∷ ks) a ⊎ AreAsked (asked k) a
+      go (inl e) = inl (inr e)
+      go (inr is) = inr is
+
+  -- those of one more
+  pub more-in : (ks : List K) (n : ℕ) (k : K) (P : Ask → Type 0) → n < length ks → k ≡ get_or ks n k →
+      ((a : Ask) → HaveIn asked (take n ks) a → P a) → ((a : Ask) → AreAsked (asked k) a → P a) → (a : Ask) →
+      HaveIn asked (take (n + 1) ks) a → P a
+  more-in ks n k P less is so_far its a there =
+      go (cases-in (take n ks) k a (subst (λ (js : List K). HaveIn asked js a) (take-more ks n k less is) there))
+    where
+      go : HaveIn asked (take n ks) a ⊎ AreAsked (asked k) a → P a
+      go (inl e) = so_far a e
+      go (inr e) = its a e
+
 pub class-kept : (ks : List AskClass) (i : ℕ) (d k : AskClass) → i < length ks →
     ((a : Ask) → AreAsked (get_or ks i d).asked.items a → AreAsked k.asked.items a) → (a : Ask) → HaveAsk ks a →
     HaveAsk (slice_set ks i k) a
-class-kept [] i d k less kept a e = absurd e
-class-kept (j ∷ ks) zero d k less kept a (inl here) = inl (kept a here)
-class-kept (j ∷ ks) zero d k less kept a (inr more) = inr more
-class-kept (j ∷ ks) (suc i) d k less kept a (inl here) = inl here
-class-kept (j ∷ ks) (suc i) d k less kept a (inr more) = inr (class-kept ks i d k (omega (arith, less)) kept a more)
+class-kept ks i d k less kept a e = kept-in (λ (c : AskClass). c.asked.items) ks i d k less kept a e
 
 pub class-has : (ks : List AskClass) (i : ℕ) (k : AskClass) (a : Ask) → i < length ks → AreAsked k.asked.items a →
     HaveAsk (slice_set ks i k) a
-class-has [] i k a less is = absurd (omega (arith, less))
-class-has (j ∷ ks) zero k a less is = inl is
-class-has (j ∷ ks) (suc i) k a less is = inr (class-has ks i k a (omega (arith, less)) is)
+class-has ks i k a less is = has-in (λ (c : AskClass). c.asked.items) ks i k a less is
 
 pub classes-first : (ks : List AskClass) (k : AskClass) (a : Ask) → HaveAsk ks a → HaveAsk (ks ++ k ∷ []) a
-classes-first [] k a e = absurd e
-classes-first (j ∷ ks) k a (inl here) = inl here
-classes-first (j ∷ ks) k a (inr more) = inr (classes-first ks k a more)
+classes-first ks k a e = first-in (λ (c : AskClass). c.asked.items) ks k a e
 
 pub classes-last : (ks : List AskClass) (k : AskClass) (a : Ask) → AreAsked k.asked.items a → HaveAsk (ks ++ k ∷ []) a
-classes-last [] k a is = inl is
-classes-last (j ∷ ks) k a is = inr (classes-last ks k a is)
+classes-last ks k a is = last-in (λ (c : AskClass). c.asked.items) ks k a is
 
 pub classes-cases : (ks : List AskClass) (k : AskClass) (a : Ask) → HaveAsk (ks ++ k ∷ []) a → HaveAsk ks a ⊎ AreAsked k.asked.items a
-classes-cases [] k a (inl here) = inr here
-classes-cases [] k a (inr none) = absurd none
-classes-cases (j ∷ ks) k a (inl here) = inl (inl here)
-classes-cases (j ∷ ks) k a (inr more) = go (classes-cases ks k a more)
-  where
-    go : HaveAsk ks a ⊎ AreAsked k.asked.items a → HaveAsk (j ∷ ks) a ⊎ AreAsked k.asked.items a
-    go (inl e) = inl (inr e)
-    go (inr is) = inr is
+classes-cases ks k a e = cases-in (λ (c : AskClass). c.asked.items) ks k a e

@@ -19,7 +19,9 @@ pub mod ClassLemmas
 pub mod ChangedLemmas
 pub mod UnsettledLemmas
 pub mod NearLemmas
-pub mod FittingLemmas
 pub mod AskLemmas
 pub mod SpotLemmas
 pub mod SameRunasLemmas
+pub mod WhoeverLemmas
+pub mod SharedLemmas
+pub mod HostMarksLemmas

@@ -297,7 +297,7 @@ ask-quiet p bs c d u m t g n all none k i low high =
     by true e f = no-user p bs u (question_as d u k t g) (λ _. true) i refl f
 
 -- a runas that depends on no user
-one-for-all : (p : Policy) (d : KnownRows) (u v : Person) (m n : Machine) (t : Option Person) (g : Option Group) (r : Option Runas) →
+pub one-for-all : (p : Policy) (d : KnownRows) (u v : Person) (m n : Machine) (t : Option Person) (g : Option Group) (r : Option Runas) →
     depends_on_user r t ≡ false → runas_allows p (question_as d u m t g) r ≡ runas_allows p (question_as d v n t g) r
 unfolding runas_allows form_allows
 one-for-all p d u v m n None g r e = cc

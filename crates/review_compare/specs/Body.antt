@@ -11,6 +11,9 @@ pub mod Comparisons
 pub mod Classes
 pub mod ChangedRows
 pub mod Near
-pub mod Fitting
 pub mod AskClasses
 pub mod SameRunas
+pub mod Whoever
+pub mod SharedAsks
+pub mod HostMarks
+pub mod Trials

@@ -1,6 +1,6 @@
 //! Classes of asks: of the blocks near a change that list a user, the runas of the same ones allows each ask of a class. On a host
 //! the same comparison holds for all of them.
-ghost use Rattle.std.specs.Prelude.{◌≡◌, ◌<◌, [], All, get_or, IfOk, IfSome, length, OnOk, true};
+ghost use Rattle.std.specs.Prelude.{◌≡◌, ◌<◌, ◌++◌, [], All, get_or, IfOk, IfSome, length, map, OnOk, true};
 ghost use Rattle.std.specs.List.{Contains};
 ghost use Rattle.review_compare.specs.declared.ask_class.AskClass.{AskClass as TheAskClass};
 ghost use Rattle.review_compare.specs.declared.ask_class.AskedWith.{AskedWith as TheAskedWith};
@@ -8,11 +8,13 @@ ghost use Rattle.review_compare.specs.declared.cell.Ask.{Ask as TheAsk};
 ghost use Rattle.review_compare.specs.Body.AskClasses as body;
 ghost use Rattle.review_compare.specs.Body.Classes.{AreSameBlocks};
 ghost use Rattle.review_compare.specs.Body.Progress.{AreListedFor};
+ghost use Rattle.review_compare.specs.Body.SharedAsks.{HaveShared, IsShared};
 
 use crate::asks::{group_at, person_at};
 use crate::cell::Ask;
 use crate::host_class::are_same_blocks;
 use crate::pair::Pair;
+use crate::shared::SharedAsks;
 use crate::spot::Listed;
 use std::alloc::{AllocError, Global};
 use sudo_match::{Machine, Person};
@@ -119,8 +121,12 @@ fn asked_alone(alloc: Global, ask: Ask) -> Result<AskedWith, AllocError>
     })
 }
 
-// Adds the ask to those of a class.
-fn push_asked(alloc: Global, asked: &mut Vec<AskedWith>, ask: Ask) -> Result<(), AllocError>
+/// Adds the ask to those of a class. Returns `AllocError` if allocation fails.
+pub(crate) fn push_asked(
+    alloc: Global,
+    asked: &mut Vec<AskedWith>,
+    ask: Ask,
+) -> Result<(), AllocError>
     ensures { OnOk result (body.AddsAsked asked.old.items ask asked.new.items) }
 {
     match taking_index(asked, ask) {
@@ -185,7 +191,98 @@ fn add_ask(
     }
 }
 
-/// Returns the classes of the asks of a user. Returns `AllocError` if allocation fails.
+// Appends copies of targets with their groups.
+fn push_copies(
+    alloc: Global,
+    asked: &[AskedWith],
+    copies: &mut Vec<AskedWith>,
+) -> Result<(), AllocError>
+    ensures { OnOk result (map body.plain copies.new.items
+        ≡ map body.plain copies.old.items ++ map body.plain asked.now) }
+{
+    for with in asked {
+        let targets = Vec::from_slice(alloc, &with.targets)?;
+        copies.push(AskedWith {
+            group: with.group,
+            targets,
+        })?;
+    }
+    Ok(())
+}
+
+// Returns the class of these asks alone.
+fn class_copied(
+    alloc: Global,
+    allowing: Listed,
+    asked: &[AskedWith],
+) -> Result<AskClass, AllocError>
+    ensures { IfOk result (λ k. (k.allowing ≡ allowing)
+        × (map body.plain k.asked.items ≡ map body.plain asked.now)) }
+{
+    let mut copies = Vec::new(alloc);
+    push_copies(alloc, asked, &mut copies)?;
+    Ok(AskClass {
+        allowing,
+        asked: copies,
+    })
+}
+
+// Adds the asks that the same near rows decide, whoever asks, to the class of the blocks that allow them.
+fn add_shared(
+    alloc: Global,
+    pair: &Pair<'_>,
+    person: &Person,
+    allowing: Listed,
+    shared: &SharedAsks,
+    classes: &mut Vec<AskClass>,
+) -> Result<(), AllocError>
+    requires decide { body.Decide pair.now person.now shared.now.first allowing }
+    requires shared { IsShared pair.now shared.now }
+    requires are { All (body.IsAskClass pair.now person.now) classes.old.items }
+    ensures are { OnOk result (All (body.IsAskClass pair.entry.now person.entry.now)
+        classes.new.items) }
+    ensures has { OnOk result ((a : TheAsk) → body.AreAsked shared.entry.now.asked.items a
+        → body.HaveAsk classes.new.items a) }
+    ensures kept { OnOk result ((a : TheAsk) → body.HaveAsk classes.old.items a
+        → body.HaveAsk classes.new.items a) }
+{
+    match class_index(classes, &allowing) {
+        Some(index) => push_copies(alloc, &shared.asked, &mut classes[index].asked),
+        None => {
+            let class = class_copied(alloc, allowing, &shared.asked)?;
+            classes.push(class)?;
+            Ok(())
+        }
+    }
+}
+
+// Returns the classes of the asks of a user.
+fn own_classes(
+    alloc: Global,
+    pair: &Pair<'_>,
+    person: &Person,
+    machine: &Machine,
+    listed: &Listed,
+    firsts: &Listed,
+    asks: &[Ask],
+) -> Result<Vec<AskClass>, AllocError>
+    requires listed { AreListedFor pair.now person.now listed.now }
+    requires firsts { body.AreFirstsOf pair.now listed.now firsts.now }
+    ensures are { IfOk result (λ classes. All (body.IsAskClass pair.entry.now person.entry.now)
+        classes.items) }
+    ensures all { IfOk result (λ classes. (a : TheAsk) → Contains asks.entry.now a
+        → body.HaveAsk classes.items a) }
+{
+    let mut classes = Vec::new(alloc);
+    for ask in asks {
+        let allowing = allowing(alloc, pair, person, machine, listed, firsts, *ask)?;
+        add_ask(alloc, pair, person, allowing, *ask, &mut classes)?;
+    }
+    Ok(classes)
+}
+
+/// Returns the classes of the asks of a user, and of those that the same near rows decide, whoever asks. Returns `AllocError` if
+/// allocation fails.
 pub(crate) fn ask_classes(
     alloc: Global,
     pair: &Pair<'_>,
@@ -193,18 +290,22 @@ pub(crate) fn ask_classes(
     machine: &Machine,
     listed: &Listed,
     asks: &[Ask],
+    shared: &[SharedAsks],
 ) -> Result<Vec<AskClass>, AllocError>
-    requires { AreListedFor pair.now person.now listed.now }
+    requires listed { AreListedFor pair.now person.now listed.now }
+    requires shared { All (IsShared pair.now) shared.now }
     ensures are { IfOk result (λ classes. All (body.IsAskClass pair.entry.now person.entry.now)
         classes.items) }
-    ensures all { IfOk result (λ classes. (a : TheAsk) → Contains asks.entry.now a
+    ensures own { IfOk result (λ classes. (a : TheAsk) → Contains asks.entry.now a
+        → body.HaveAsk classes.items a) }
+    ensures shared { IfOk result (λ classes. (a : TheAsk) → HaveShared shared.entry.now a
         → body.HaveAsk classes.items a) }
 {
     let firsts = firsts_of(alloc, pair, listed)?;
-    let mut classes = Vec::new(alloc);
-    for ask in asks {
-        let allowing = allowing(alloc, pair, person, machine, listed, &firsts, *ask)?;
-        add_ask(alloc, pair, person, allowing, *ask, &mut classes)?;
+    let mut classes = own_classes(alloc, pair, person, machine, listed, &firsts, asks)?;
+    for each in shared {
+        let allowing = allowing(alloc, pair, person, machine, listed, &firsts, each.first)?;
+        add_shared(alloc, pair, person, allowing, each, &mut classes)?;
     }
     Ok(classes)
 }

@@ -1,6 +1,5 @@
 //! Commands that rows of two policies may answer otherwise: texts that their patterns fit, to be tried.
 use crate::characters::is_plain;
-use crate::ruling::Ruled;
 use crate::shape::Shape;
 use std::alloc::{AllocError, Global};
 use sudo_grammar::Atom;
@@ -17,8 +16,8 @@ pub(crate) struct Candidate {
 /// The texts that stand in place of a star.
 pub(crate) const FILLS: [&[u8]; 2] = [b"", b"x"];
 
-// The most texts of arguments that are tried with the paths of other rows.
-const MOST_ARGUMENTS: usize = 32;
+/// The most texts of arguments that are tried with the paths of other rows.
+pub(crate) const MOST_ARGUMENTS: usize = 32;
 
 // Returns the index behind the bracket that begins at this one, as far as it is seen.
 fn bracket_end(chars: &[Ch], start: usize) -> Option<usize> {
@@ -146,26 +145,13 @@ pub(crate) fn own_path(alloc: Global, shape: &Shape) -> Result<Vec<u8>, AllocErr
     }
 }
 
-/// Returns a command that few patterns fit. Returns `AllocError` if allocation fails.
-pub(crate) fn rare_candidate(alloc: Global) -> Result<Candidate, AllocError> {
-    Ok(Candidate {
-        command: Vec::from_slice(alloc, b"/x")?,
-        arguments: Vec::new(alloc),
-    })
+/// Returns the path of a command that few patterns fit. Returns `AllocError` if allocation fails.
+pub(crate) fn rare_path(alloc: Global) -> Result<Vec<u8>, AllocError> {
+    Vec::from_slice(alloc, b"/x")
 }
 
-/// Whether the command with its arguments is among the others.
-pub(crate) fn has_candidate(candidates: &[Candidate], candidate: &Candidate) -> bool {
-    for other in candidates {
-        if other.command == candidate.command && other.arguments == candidate.arguments {
-            return true;
-        }
-    }
-    false
-}
-
-/// Whether the text is among the others.
-pub(crate) fn has_text(texts: &[Vec<u8>], text: &[u8]) -> bool {
+// Whether the text is among the others.
+fn has_text(texts: &[Vec<u8>], text: &[u8]) -> bool {
     for other in texts {
         if other.as_slice() == text {
             return true;
@@ -182,8 +168,12 @@ fn push_text(texts: &mut Vec<Vec<u8>>, text: Vec<u8>) -> Result<(), AllocError> 
     Ok(())
 }
 
-// Appends texts of the arguments of a command, if it has any.
-fn push_given(alloc: Global, shape: &Shape, given: &mut Vec<Vec<u8>>) -> Result<(), AllocError> {
+/// Appends texts of the arguments of a command, if it has any. Returns `AllocError` if allocation fails.
+pub(crate) fn push_given(
+    alloc: Global,
+    shape: &Shape,
+    given: &mut Vec<Vec<u8>>,
+) -> Result<(), AllocError> {
     match &shape.atom {
         Atom::Command {
             args: Some(chars),
@@ -197,21 +187,4 @@ fn push_given(alloc: Global, shape: &Shape, given: &mut Vec<Vec<u8>>) -> Result<
         }
         _ => Ok(()),
     }
-}
-
-/// Returns different texts of the arguments of the rows, those of the new policy first: at most 32. Returns `AllocError` if
-/// allocation fails.
-pub(crate) fn given_texts(
-    alloc: Global,
-    old: &[Ruled<'_>],
-    new: &[Ruled<'_>],
-) -> Result<Vec<Vec<u8>>, AllocError> {
-    let mut given = Vec::new(alloc);
-    for row in new {
-        push_given(alloc, row.shape, &mut given)?;
-    }
-    for row in old {
-        push_given(alloc, row.shape, &mut given)?;
-    }
-    Ok(given)
 }

@@ -1,15 +1,12 @@
 //! The rows in which two policies differ for a target, and the rows near them: those that may fit a command that one of them
 //! fits. The near rows decide these commands, and all other commands are answered alike.
-ghost use Rattle.std.specs.Prelude.{◌≡◌, ◌+◌, ◌++◌, ◌-◌, ◌∷◌, ◌≤◌, [], drop, filter, IfOk, IfSome, length, map, OnOk, take};
+ghost use Rattle.std.specs.Prelude.{◌≡◌, ◌+◌, ◌++◌, ◌-◌, ◌∷◌, ◌≤◌, [], drop, filter, IfOk, length, map, OnOk, take};
 ghost use Rattle.review_compare.specs.Body.ChangedRows as body;
-ghost use Rattle.review_compare.specs.Body.Shown.{all_shown, IsShownWitness, ruling_of, shown};
+ghost use Rattle.review_compare.specs.Body.Shown.{all_shown, ruling_of, shown};
 
-use crate::candidates::Candidate;
 use crate::compared::is_same_ruling;
 use crate::ruling::Ruled;
-use crate::witness::{Witness, witness_of};
 use std::alloc::{AllocError, Global};
-use sudo_match::command_matches;
 
 /// The rows of two policies for a target, those in which they differ, and the rows of each that are near these.
 #[derive(Drop)]
@@ -143,35 +140,5 @@ impl<'r, 'a> Changed<'r, 'a> {
             old: near_old,
             new: near_new,
         })
-    }
-}
-
-impl Changed<'_, '_> {
-    // Whether a changed row fits the command.
-    fn fits(&self, command: &[u8], arguments: &[u8]) -> bool
-        ensures { result ≡ body.is_fitted (all_shown self.now.rows.items) command.now arguments.now }
-    {
-        for row in &self.rows {
-            if command_matches(&row.shape.atom, command, arguments) {
-                return true;
-            }
-        }
-        false
-    }
-
-    /// Returns the command as a witness, if both policies do not say the same to it. Returns `AllocError` if allocation fails.
-    pub(crate) fn witness(
-        &self,
-        alloc: Global,
-        text: &Candidate,
-    ) -> Result<Option<Witness>, AllocError>
-        ensures { IfOk result (λ found. IfSome found (IsShownWitness self.now.all_old.now
-            self.now.all_new.now)) }
-    {
-        let (command, arguments) = (text.command.as_slice(), text.arguments.as_slice());
-        if !self.fits(command, arguments) {
-            return Ok(None);
-        }
-        witness_of(alloc, &self.old, &self.new, command, arguments)
     }
 }

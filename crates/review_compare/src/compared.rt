@@ -9,7 +9,7 @@ use crate::answer::is_same_answer;
 use crate::changed::Changed;
 use crate::ruling::{Overlap, Ruled, first_overlap, is_unnoted};
 use crate::text::atom_copied;
-use crate::trials::witnesses;
+use crate::trials::{Trial, witnesses};
 use crate::witness::Witness;
 use std::alloc::{AllocError, Global};
 use sudo_grammar::Atom;
@@ -244,30 +244,38 @@ fn compared_changed(alloc: Global, changed: &Changed<'_, '_>) -> Result<Compared
     if changed.new.len() > MOST_ROWS {
         return many_may(alloc, changed);
     }
-    let found = witnesses(alloc, changed)?;
-    if !found.is_empty() {
-        return Ok(Compared::Differs(Seq::from_vec(found)));
-    }
     match first_overlap(&changed.old, &changed.new) {
         None => Ok(Compared::Same),
         Some(overlap) => open_may(alloc, changed, overlap),
     }
 }
 
-/// Compares the rows of two policies for a target: by commands that may be answered otherwise, and then by tests on pairs of
-/// rows. Only rows that may fit a command of a row that differs are looked at; beyond a thousand such rows of one of the
-/// policies nothing is known. What is noted may be met or not: the command of a witness is decided by rows before which nothing is
-/// noted, and other rows cover the same rows alone. Returns `AllocError` if allocation fails.
-pub(crate) fn compared_rows(
+// Compares rows of which no command is known to be answered otherwise.
+fn compared_pairs(
     alloc: Global,
     old: &[Ruled<'_>],
     new: &[Ruled<'_>],
 ) -> Result<Compared, AllocError>
     ensures { IfOk result (witnesses.IsCompared (body.all_shown old.now) (body.all_shown new.now)) }
 {
-    if have_same_rulings(old, new) {
-        return Ok(Compared::Same);
-    }
     let changed = Changed::between(alloc, old, new)?;
     compared_changed(alloc, &changed)
+}
+
+/// Compares the rows of two policies for a target: by commands that may be answered otherwise, and then by tests on pairs of
+/// rows. Only rows that may fit a command of a row that differs are looked at; beyond a thousand such rows of one of the
+/// policies nothing is known but by commands. What is noted may be met or not: the command of a witness is decided by rows before
+/// which nothing is noted, and other rows cover the same rows alone. Returns `AllocError` if allocation fails.
+pub(crate) fn compared_rows(alloc: Global, trial: &Trial<'_, '_>) -> Result<Compared, AllocError>
+    ensures { IfOk result (witnesses.IsCompared (body.all_shown trial.now.old_rows.now)
+        (body.all_shown trial.now.new_rows.now)) }
+{
+    if have_same_rulings(trial.old_rows, trial.new_rows) {
+        return Ok(Compared::Same);
+    }
+    let found = witnesses(alloc, trial)?;
+    if !found.is_empty() {
+        return Ok(Compared::Differs(Seq::from_vec(found)));
+    }
+    compared_pairs(alloc, trial.old_rows, trial.new_rows)
 }

@@ -1,6 +1,7 @@
 //! Comparisons of blocks, kept so that the same blocks are compared once.
 ghost use Rattle.std.specs.Prelude.{◌≡◌, ◌<◌, All, get_or, IfOk, IfSome, length, OnOk, true};
 ghost use Rattle.review_compare.specs.declared.comparison.Comparison.{Comparison as TheComparison};
+ghost use Rattle.review_compare.specs.declared.pair.Pair.{Pair as ThePair};
 ghost use Rattle.review_compare.specs.Witnesses.{IsCompared};
 ghost use Rattle.review_compare.specs.Body.Chosen.{chosen};
 ghost use Rattle.review_compare.specs.Body.Comparisons as body;
@@ -9,6 +10,7 @@ use crate::compared::{Compared, compared_rows};
 use crate::copied::copied;
 use crate::pair::Pair;
 use crate::side::rows_at;
+use crate::trials::Trial;
 use std::alloc::{AllocError, Global};
 
 /// The outcome of a comparison of blocks, by their indices in both policies.
@@ -69,7 +71,28 @@ fn compared_blocks(
 {
     let old_rows = rows_at(alloc, &pair.parts.old, old)?;
     let new_rows = rows_at(alloc, &pair.parts.new, new)?;
-    compared_rows(alloc, &old_rows, &new_rows)
+    let trial = Trial {
+        probes: &pair.probes,
+        parts: &pair.parts,
+        old,
+        new,
+        old_rows: &old_rows,
+        new_rows: &new_rows,
+    };
+    compared_rows(alloc, &trial)
+}
+
+// The most comparisons that are kept.
+const MOST_KEPT: usize = 1024;
+
+// Forgets the comparisons, if there are too many.
+fn trim(comparisons: &mut Vec<Comparison>)
+    ensures { (p : ThePair) → All (body.IsRight p) comparisons.old.items
+        → All (body.IsRight p) comparisons.new.items }
+{
+    if comparisons.len() >= MOST_KEPT {
+        comparisons.clear();
+    }
 }
 
 // Compares the rows of the blocks at these indices, and keeps the outcome.
@@ -87,6 +110,7 @@ fn first_found(
 {
     let found = compared_blocks(alloc, pair, &old, &new)?;
     let copy = copied(alloc, &found)?;
+    trim(comparisons);
     comparisons.push(Comparison { old, new, found })?;
     Ok(copy)
 }

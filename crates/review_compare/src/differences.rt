@@ -9,6 +9,7 @@ ghost use Rattle.review_compare.specs.Body.Classes.{AddsCells, IsClass, IsClasse
 ghost use Rattle.review_compare.specs.Body.Comparisons.{IsRight};
 ghost use Rattle.review_compare.specs.Body.LineAtoms.{AreLineAtoms};
 ghost use Rattle.review_compare.specs.Body.Progress as body;
+ghost use Rattle.review_compare.specs.Body.SharedAsks.{IsSplit};
 
 use crate::ask_class::{AskClass, ask_classes};
 use crate::asks::all_asks;
@@ -20,6 +21,7 @@ use crate::host_class::{HostClass, add_spot, rows_of};
 use crate::lines::line_atoms;
 use crate::pair::Pair;
 use crate::row::{Dimension, Row, absorb_all};
+use crate::shared::{SplitAsks, split_asks, unshared_asks};
 use crate::side::Side;
 use crate::spot::{Listed, Spot};
 use review_grants::Scope;
@@ -63,15 +65,19 @@ fn listed_on(
     spot: Spot<'_>,
     listed: &Listed,
 ) -> Result<Listed, AllocError>
-    requires { body.AreListedFor pair.now spot.person.now listed.now }
+    requires spot { body.IsSpot pair.now spot }
+    requires listed { body.AreListedFor pair.now spot.person.now listed.now }
     ensures { IfOk result (body.AreListedIn pair.now spot.entry) }
 {
+    let (person, machine) = (spot.person, spot.machine);
+    let old_marks = pair.old_marks(spot.host);
+    let new_marks = pair.new_marks(spot.host);
     let old = pair
         .old
-        .listed_on(alloc, spot.person, spot.machine, &listed.old)?;
+        .listed_on(alloc, person, machine, &listed.old, old_marks)?;
     let new = pair
         .new
-        .listed_on(alloc, spot.person, spot.machine, &listed.new)?;
+        .listed_on(alloc, person, machine, &listed.new, new_marks)?;
     Ok(Listed { old, new })
 }
 
@@ -214,18 +220,20 @@ fn rows_beside(
     person: &Person,
     machine: &Machine,
     scope: Option<&Machine>,
-    asks: &[Ask],
+    asks: &SplitAsks,
     comparisons: &mut Vec<Comparison>,
 ) -> Result<Vec<Row>, AllocError>
     requires user { slice_get pair.now.directory.now.people user ≡ Some person.now }
+    requires split { IsSplit pair.now asks.now }
     requires right { All (IsRight pair.now) comparisons.old.items }
     ensures all { IfOk result (λ rows. body.Progress pair.entry.now [] rows.items
-        (body.IsForAsked pair.entry.now (option_copied scope.entry) user asks.entry.now)) }
+        (body.IsForAsked pair.entry.now (option_copied scope.entry) user
+        asks.entry.now.all.items)) }
     ensures right { OnOk result (All (IsRight pair.entry.now) comparisons.new.items) }
 {
-    let left = asks_left(alloc, pair, person, machine, asks)?;
+    let left = asks_left(alloc, pair, person, machine, &asks.own)?;
     let listed = listed_for(alloc, pair, person)?;
-    let asked = ask_classes(alloc, pair, person, machine, &listed, &left)?;
+    let asked = ask_classes(alloc, pair, person, machine, &listed, &left, &asks.shared)?;
     rows_for_asked(
         alloc,
         pair,
@@ -245,13 +253,15 @@ fn rows_for(
     user: usize,
     person: &Person,
     scope: Option<&Machine>,
-    asks: &[Ask],
+    asks: &SplitAsks,
     comparisons: &mut Vec<Comparison>,
 ) -> Result<Vec<Row>, AllocError>
     requires user { slice_get pair.now.directory.now.people user ≡ Some person.now }
+    requires split { IsSplit pair.now asks.now }
     requires right { All (IsRight pair.now) comparisons.old.items }
     ensures all { IfOk result (λ rows. body.Progress pair.entry.now [] rows.items
-        (body.IsForAsked pair.entry.now (option_copied scope.entry) user asks.entry.now)) }
+        (body.IsForAsked pair.entry.now (option_copied scope.entry) user
+        asks.entry.now.all.items)) }
     ensures right { OnOk result (All (IsRight pair.entry.now) comparisons.new.items) }
 {
     match pair.directory.machines().first() {
@@ -269,16 +279,17 @@ fn add_user(
     user: usize,
     person: &Person,
     scope: Scope<'_>,
-    asks: &[Ask],
+    asks: &SplitAsks,
     comparisons: &mut Vec<Comparison>,
     rows: &mut Vec<Row>,
     finder: &mut Finder,
 ) -> Result<(), AllocError>
     requires user { slice_get pair.now.directory.now.people user ≡ Some person.now }
+    requires split { IsSplit pair.now asks.now }
     requires right { All (IsRight pair.now) comparisons.old.items }
     ensures added { OnOk result (body.Progress pair.entry.now rows.old.items rows.new.items
         (body.IsForUser pair.entry.now (option_copied scope.entry.user)
-        (option_copied scope.entry.host) user asks.entry.now)) }
+        (option_copied scope.entry.host) user asks.entry.now.all.items)) }
     ensures right { OnOk result (All (IsRight pair.entry.now) comparisons.new.items) }
 {
     if !is_this_user(scope.user, person) {
@@ -299,11 +310,12 @@ fn all_rows(
     alloc: Global,
     pair: &Pair<'_>,
     scope: Scope<'_>,
-    asks: &[Ask],
+    asks: &SplitAsks,
 ) -> Result<Vec<Row>, AllocError>
+    requires { IsSplit pair.now asks.now }
     ensures { IfOk result (λ rows. body.Progress pair.now [] rows.items
         (body.IsAsked pair.now (option_copied scope.entry.user)
-        (option_copied scope.entry.host) asks.now)) }
+        (option_copied scope.entry.host) asks.now.all.items)) }
 {
     let mut comparisons = Vec::new(alloc);
     let mut finder = Finder::new(alloc, BUCKETS_OF_ALL)?;
@@ -363,9 +375,14 @@ fn rows_where_asked(
     ) {
         (Some(person), Some(machine)) => {
             let left = asks_left_for_all(alloc, pair, person, machine, asks)?;
-            all_rows(alloc, pair, scope, &left)
+            let split = split_asks(alloc, pair, person, machine, &left)?;
+            drop(left);
+            all_rows(alloc, pair, scope, &split)
         }
-        _ => all_rows(alloc, pair, scope, asks),
+        _ => {
+            let split = unshared_asks(alloc, pair, asks)?;
+            all_rows(alloc, pair, scope, &split)
+        }
     }
 }
 

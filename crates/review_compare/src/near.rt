@@ -38,8 +38,8 @@ fn push_all<'a>(rows: &[Ruled<'a>], all: &mut Vec<Ruled<'a>>) -> Result<(), Allo
     Ok(())
 }
 
-// Returns the rows of the blocks between the common prefix and suffix, of both policies.
-fn changed_rows<'b>(
+/// Returns the rows of the blocks between the common prefix and suffix, of both policies. Returns `AllocError` if allocation fails.
+pub(crate) fn changed_rows<'b>(
     alloc: Global,
     old: &'b [Block<'_>],
     new: &'b [Block<'_>],

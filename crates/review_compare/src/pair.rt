@@ -5,20 +5,24 @@ ghost use Rattle.sudo_match.specs.declared.people.Person.{Person as ThePerson};
 ghost use Rattle.sudo_verdict.specs.Questions.{Question, question_as};
 ghost use Rattle.review_compare.specs.Cells.{SaySame};
 ghost use Rattle.review_compare.specs.Differences.{known_at};
+ghost use Rattle.review_compare.specs.Body.HostMarks.{HaveHostMarks};
 ghost use Rattle.review_compare.specs.Body.Near.{AreNear, HaveParts, changed_rows};
 ghost use Rattle.review_compare.specs.Body.Unchanged.{AreCommon};
 
 use crate::asks::{group_at, person_at};
 use crate::cell::Ask;
 use crate::common::{Common, common_of};
-use crate::near::{Parts, near_change, parts_near};
+use crate::host_marks::{HostMarks, host_marks};
+use crate::near::{Parts, changed_rows, near_change, parts_near};
+use crate::probes::Probes;
 use crate::side::Side;
 use crate::spot::Listed;
 use std::alloc::{AllocError, Global};
 use sudo_match::{Directory, Group, Machine, Person};
 use sudo_verdict::Asker;
 
-/// Two policies, with the known users, hosts and groups, the blocks near a change, and the blocks with their near rows alone.
+/// Two policies, with the known users, hosts and groups, the blocks near a change, the blocks with their near rows alone, what
+/// these give to try, and which of the near blocks list each host.
 #[derive(Drop)]
 pub(crate) struct Pair<'a> {
     pub(crate) old: Side<'a>,
@@ -28,13 +32,28 @@ pub(crate) struct Pair<'a> {
     pub(crate) common: Common,
     pub(crate) near: Listed,
     pub(crate) parts: Parts<'a>,
+    pub(crate) probes: Probes,
+    pub(crate) marks: Vec<HostMarks>,
     ghost are_common: { AreCommon old.checked.now old.blocks.items new.checked.now
         new.blocks.items common },
+    ghost are_marks: { HaveHostMarks old new directory.now.machines marks.items },
     ghost are_near: { AreNear common old.blocks.items new.blocks.items near },
     ghost old_parts: { HaveParts (changed_rows common old.blocks.items new.blocks.items)
         old.blocks.items parts.old.items },
     ghost new_parts: { HaveParts (changed_rows common old.blocks.items new.blocks.items)
         new.blocks.items parts.new.items },
+}
+
+// Returns what the near rows of both policies give to try.
+fn probes_near(
+    alloc: Global,
+    old: &Side<'_>,
+    new: &Side<'_>,
+    common: Common,
+    parts: &Parts<'_>,
+) -> Result<Probes, AllocError> {
+    let changed = changed_rows(alloc, &old.blocks, &new.blocks, common)?;
+    Probes::of(alloc, &changed, parts)
 }
 
 impl<'a> Pair<'a> {
@@ -54,6 +73,8 @@ impl<'a> Pair<'a> {
         let common = common_of(alloc, &old, &new)?;
         let near = near_change(alloc, &old, &new, common)?;
         let parts = parts_near(alloc, &old, &new, common)?;
+        let probes = probes_near(alloc, &old, &new, common, &parts)?;
+        let marks = host_marks(alloc, &old, &new, common, &near, directory)?;
         Ok(Pair {
             old,
             new,
@@ -62,6 +83,8 @@ impl<'a> Pair<'a> {
             common,
             near,
             parts,
+            probes,
+            marks,
         })
     }
 }

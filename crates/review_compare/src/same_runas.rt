@@ -22,8 +22,13 @@ fn answer_before(answers: &[bool], firsts: &[usize], at: usize) -> Option<bool>
 }
 
 impl Side<'_> {
-    // Whether the runas of the blocks at two indices are the same, written out.
-    fn have_same_runas(&self, alloc: Global, index: usize, other: usize) -> Result<bool, AllocError>
+    /// Whether the runas of the blocks at two indices are the same, written out. Returns `AllocError` if allocation fails.
+    pub(crate) fn have_same_runas(
+        &self,
+        alloc: Global,
+        index: usize,
+        other: usize,
+    ) -> Result<bool, AllocError>
         ensures { IfOk result (λ same. same ≡ true → (q : Question)
             → runas_at self.now.checked.now self.now.blocks.items q index
             ≡ runas_at self.now.checked.now self.now.blocks.items q other) }

@@ -40,9 +40,9 @@ pub(crate) fn push_if(indices: &mut Vec<usize>, index: usize, keep: bool) -> Res
     Ok(())
 }
 
-// Whether the runas may allow the target to one user and not to another. It cannot without a list of groups, unless it has no
-// list at all.
-fn depends_on_user(runas: Option<&Runas>, target: Option<&Person>) -> bool
+/// Whether the runas may allow the target to one user and not to another. It cannot without a list of groups, unless it has no
+/// list at all.
+pub(crate) fn depends_on_user(runas: Option<&Runas>, target: Option<&Person>) -> bool
     ensures { result ≡ body.depends_on_user (option_copied runas.entry)
         (option_copied target.entry) }
 {
@@ -84,8 +84,8 @@ impl Side<'_> {
         }
     }
 
-    // Whether the host list of the block at an index allows the host.
-    fn lists_host_at(&self, index: usize, host: &Machine) -> bool
+    /// Whether the host list of the block at an index allows the host.
+    pub(crate) fn lists_host_at(&self, index: usize, host: &Machine) -> bool
         ensures { result
             ≡ body.host_at self.now.checked.now self.now.blocks.items host.now index }
     {
@@ -231,9 +231,11 @@ impl Side<'_> {
         user: &Person,
         host: &Machine,
         listed: &[usize],
+        marks: &[Option<bool>],
     ) -> Result<Vec<usize>, AllocError>
-        requires { list_all (body.user_at self.now.checked.now self.now.blocks.items
+        requires listed { list_all (body.user_at self.now.checked.now self.now.blocks.items
             user.now) listed.now ≡ true }
+        requires marks { body.AreMarks self.now.checked.now self.now.blocks.items host.now marks.now }
         ensures all { IfOk result (λ indices. body.HaveAllOn self.now.checked.now
             self.now.blocks.items listed.now host.now indices.items) }
         ensures each { IfOk result (λ indices. list_all (body.listed_at self.now.checked.now
@@ -241,7 +243,11 @@ impl Side<'_> {
     {
         let mut indices = Vec::new(alloc);
         for index in listed {
-            push_if(&mut indices, *index, self.lists_host_at(*index, host))?;
+            push_if(
+                &mut indices,
+                *index,
+                self.lists_host_by(marks, *index, host),
+            )?;
         }
         Ok(indices)
     }

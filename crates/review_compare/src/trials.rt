@@ -1,25 +1,166 @@
-//! Commands that are tried, and those among them that two policies answer otherwise.
+//! Commands that are tried on the rows of two policies, and those among them that the policies answer otherwise.
 ghost use Rattle.std.specs.Prelude.{All, IfOk, OnOk};
-ghost use Rattle.review_compare.specs.Body.Fitting.{AreFitting};
 ghost use Rattle.review_compare.specs.Body.Shown.{IsShownWitness};
+ghost use Rattle.review_compare.specs.Body.Trials.{StayWitnesses};
 
-use crate::answer::Answer;
-use crate::candidates::{
-    Candidate, FILLS, can_be_asked, given_texts, has_candidate, has_text, own_candidate, own_path,
-    rare_candidate,
-};
-use crate::changed::Changed;
-use crate::fitting::{Fitting, may_fit};
-use crate::ruling::Ruled;
+use crate::answer::{Answer, answer_between};
+use crate::block::{Block, BlockRow};
+use crate::candidates::{MOST_ARGUMENTS, can_be_asked};
+use crate::near::Parts;
+use crate::probes::{BlockProbes, Own, Path, Probes, RowAt};
+use crate::ruling::{Ruled, is_unnoted};
 use crate::shape::Shape;
-use crate::witness::Witness;
+use crate::witness::{Witness, witness_of};
 use std::alloc::{AllocError, Global};
+use sudo_grammar::Atom;
+use sudo_match::{Verdict, command_matches};
+use sudo_text::Place;
 
-// What was tried: commands with arguments that the same row fits, and commands with arguments of all rows.
+/// The rows of two policies for a target, and the blocks that have them, with what these give to try.
+#[derive(Clone, Copy)]
+pub(crate) struct Trial<'t, 'a> {
+    pub(crate) probes: &'t Probes,
+    pub(crate) parts: &'t Parts<'a>,
+    /// The indices of the blocks.
+    pub(crate) old: &'t [usize],
+    pub(crate) new: &'t [usize],
+    pub(crate) old_rows: &'t [Ruled<'t>],
+    pub(crate) new_rows: &'t [Ruled<'t>],
+}
+
+// Which blocks of both policies have the rows.
+#[derive(Drop)]
+struct Marks {
+    old: Vec<bool>,
+    new: Vec<bool>,
+}
+
+// Which commands with arguments, and which paths, were tried.
 #[derive(Drop)]
 struct Tried {
-    own: Vec<Candidate>,
-    paths: Vec<Vec<u8>>,
+    own: Vec<bool>,
+    paths: Vec<bool>,
+}
+
+// The number of answers.
+const MOST_ANSWERS: usize = 3;
+
+// The place of a verdict of which only the answer counts.
+const NO_PLACE: Place = Place { file: 0, line: 0 };
+
+// Returns which of so many blocks have these indices.
+fn marked_among(alloc: Global, count: usize, indices: &[usize]) -> Result<Vec<bool>, AllocError> {
+    let mut marks = Vec::new(alloc);
+    marks.resize(count, false)?;
+    for index in indices {
+        if let Some(mark) = marks.get_mut(*index) {
+            *mark = true;
+        }
+    }
+    Ok(marks)
+}
+
+// Returns which blocks of both policies have the rows.
+fn marks_of(alloc: Global, trial: &Trial<'_, '_>) -> Result<Marks, AllocError> {
+    let old = marked_among(alloc, trial.parts.old.len(), trial.old)?;
+    let new = marked_among(alloc, trial.parts.new.len(), trial.new)?;
+    Ok(Marks { old, new })
+}
+
+// Returns that nothing was tried.
+fn untried(alloc: Global, probes: &Probes) -> Result<Tried, AllocError> {
+    let mut own = Vec::new(alloc);
+    own.resize(probes.own.len(), false)?;
+    let mut paths = Vec::new(alloc);
+    paths.resize(probes.paths.len(), false)?;
+    Ok(Tried { own, paths })
+}
+
+// Whether the arguments of the row fit, where its path does.
+fn fits(shape: &Shape, command: &[u8], arguments: &[u8]) -> bool {
+    match &shape.atom {
+        Atom::Command { args: None, .. } => true,
+        atom => command_matches(atom, command, arguments),
+    }
+}
+
+// Returns the row at a position, if its block is marked.
+fn marked_row<'b, 'a>(
+    blocks: &'b [Block<'a>],
+    marks: &[bool],
+    at: RowAt,
+) -> Option<&'b BlockRow<'a>> {
+    if !*marks.get(at.block)? {
+        return None;
+    }
+    blocks.get(at.block)?.rows.get(at.row)
+}
+
+// Returns the last of the rows that stands in a marked block.
+fn last_marked<'b, 'a>(
+    blocks: &'b [Block<'a>],
+    marks: &[bool],
+    rows: &[RowAt],
+) -> Option<&'b BlockRow<'a>> {
+    for back in 0..rows.len() {
+        if let Some(row) = marked_row(blocks, marks, rows[rows.len() - back - 1]) {
+            return Some(row);
+        }
+    }
+    None
+}
+
+// Returns the last row of the marked blocks that fits the command, of those whose paths fit it.
+fn deciding<'b, 'a>(
+    blocks: &'b [Block<'a>],
+    marks: &[bool],
+    rows: &[RowAt],
+    command: &[u8],
+    arguments: &[u8],
+) -> Option<&'b BlockRow<'a>> {
+    for back in 0..rows.len() {
+        if let Some(row) = marked_row(blocks, marks, rows[rows.len() - back - 1]) {
+            if fits(&row.shape, command, arguments) {
+                return Some(row);
+            }
+        }
+    }
+    None
+}
+
+// Returns the verdict of a row without its place, if nothing is noted before it.
+fn verdict_by(row: Option<&BlockRow<'_>>) -> Option<Verdict> {
+    let Some(row) = row else {
+        return Some(Verdict::NoMatch);
+    };
+    if !is_unnoted(row.before) {
+        return None;
+    }
+    match row.answer {
+        None => Some(Verdict::Deny { place: NO_PLACE }),
+        Some(tags) => Some(Verdict::Allow {
+            place: NO_PLACE,
+            tags,
+        }),
+    }
+}
+
+// Returns what the change does to a command, by the rows that decide it.
+fn answer_of(old: Option<&BlockRow<'_>>, new: Option<&BlockRow<'_>>) -> Option<Answer> {
+    let before = verdict_by(old)?;
+    let after = verdict_by(new)?;
+    answer_between(&before, &after)
+}
+
+// Whether the row, if there is one, fits its path with any arguments.
+fn takes_any(row: Option<&BlockRow<'_>>) -> bool {
+    match row {
+        None => true,
+        Some(row) => match &row.shape.atom {
+            Atom::All | Atom::Command { args: None, .. } => true,
+            _ => false,
+        },
+    }
 }
 
 // Whether one of the witnesses has this answer.
@@ -29,14 +170,12 @@ fn has_answer(found: &[Witness], answer: Answer) -> bool {
 
 // Appends the witness, unless one of the same answer is there.
 fn push_witness(
-    changed: &Changed<'_, '_>,
+    trial: &Trial<'_, '_>,
     witness: Witness,
     found: &mut Vec<Witness>,
 ) -> Result<(), AllocError>
-    requires { IsShownWitness changed.now.all_old.now changed.now.all_new.now witness }
-    ensures { OnOk result (All (IsShownWitness changed.now.all_old.now
-        changed.now.all_new.now) found.old.items → All (IsShownWitness
-        changed.now.all_old.now changed.now.all_new.now) found.new.items) }
+    requires { IsShownWitness trial.now.old_rows.now trial.now.new_rows.now witness }
+    ensures { OnOk result (StayWitnesses trial.now found.old.items found.new.items) }
 {
     if !has_answer(found, witness.answer) {
         found.push(witness)?;
@@ -44,212 +183,378 @@ fn push_witness(
     Ok(())
 }
 
-// Appends the command as a witness, if it is one and none of the same answer is there.
-fn try_text(
+// Appends the command as a witness, if it is one.
+fn try_command(
     alloc: Global,
-    changed: &Changed<'_, '_>,
-    text: &Candidate,
-    found: &mut Vec<Witness>,
-) -> Result<(), AllocError>
-    ensures { OnOk result (All (IsShownWitness changed.now.all_old.now
-        changed.now.all_new.now) found.old.items → All (IsShownWitness
-        changed.now.all_old.now changed.now.all_new.now) found.new.items) }
-{
-    if !can_be_asked(&text.command, &text.arguments) {
-        return Ok(());
-    }
-    match changed.witness(alloc, text)? {
-        Some(witness) => push_witness(changed, witness, found),
-        None => Ok(()),
-    }
-}
-
-// Does the same, unless the command was tried before.
-fn try_other_text(
-    alloc: Global,
-    changed: &Changed<'_, '_>,
-    text: Candidate,
-    tried: &mut Vec<Candidate>,
-    found: &mut Vec<Witness>,
-) -> Result<(), AllocError>
-    ensures { OnOk result (All (IsShownWitness changed.now.all_old.now
-        changed.now.all_new.now) found.old.items → All (IsShownWitness
-        changed.now.all_old.now changed.now.all_new.now) found.new.items) }
-{
-    if has_candidate(tried, &text) {
-        return Ok(());
-    }
-    try_text(alloc, changed, &text, found)?;
-    tried.push(text)?;
-    Ok(())
-}
-
-// Tries commands with arguments that the command of a policy fits, but for those that were tried before.
-fn try_own(
-    alloc: Global,
-    changed: &Changed<'_, '_>,
-    shape: &Shape,
-    tried: &mut Vec<Candidate>,
-    found: &mut Vec<Witness>,
-) -> Result<(), AllocError>
-    ensures { OnOk result (All (IsShownWitness changed.now.all_old.now
-        changed.now.all_new.now) found.old.items → All (IsShownWitness
-        changed.now.all_old.now changed.now.all_new.now) found.new.items) }
-{
-    for fill in &FILLS {
-        let text = own_candidate(alloc, shape, fill)?;
-        try_other_text(alloc, changed, text, tried, found)?;
-    }
-    Ok(())
-}
-
-// Tries the command with these arguments; the rows are those whose paths fit it.
-fn try_arguments(
-    alloc: Global,
-    changed: &Changed<'_, '_>,
-    fitting: &Fitting<'_>,
+    trial: &Trial<'_, '_>,
     command: &[u8],
     arguments: &[u8],
     found: &mut Vec<Witness>,
 ) -> Result<(), AllocError>
-    requires { AreFitting changed.now command.now fitting.now }
-    ensures { OnOk result (All (IsShownWitness changed.entry.now.all_old.now
-        changed.entry.now.all_new.now) found.old.items → All (IsShownWitness
-        changed.entry.now.all_old.now changed.entry.now.all_new.now) found.new.items) }
+    ensures { OnOk result (StayWitnesses trial.now found.old.items found.new.items) }
 {
-    if !can_be_asked(command, arguments) {
-        return Ok(());
-    }
-    match fitting.witness(alloc, changed, command, arguments)? {
-        Some(witness) => push_witness(changed, witness, found),
+    match witness_of(alloc, trial.old_rows, trial.new_rows, command, arguments)? {
+        Some(witness) => push_witness(trial, witness, found),
         None => Ok(()),
     }
 }
 
-// Tries the command with each of these arguments.
+// Whether the command seems to be answered otherwise, and none of the witnesses has this answer.
+fn is_worth_trying(
+    trial: &Trial<'_, '_>,
+    marks: &Marks,
+    path: &Path,
+    arguments: &[u8],
+    found: &[Witness],
+) -> bool {
+    if found.len() >= MOST_ANSWERS || !can_be_asked(&path.text, arguments) {
+        return false;
+    }
+    let old = deciding(
+        &trial.parts.old,
+        &marks.old,
+        &path.old,
+        &path.text,
+        arguments,
+    );
+    let new = deciding(
+        &trial.parts.new,
+        &marks.new,
+        &path.new,
+        &path.text,
+        arguments,
+    );
+    match answer_of(old, new) {
+        None => false,
+        Some(answer) => !has_answer(found, answer),
+    }
+}
+
+// Tries the path with these arguments.
+fn try_text(
+    alloc: Global,
+    trial: &Trial<'_, '_>,
+    marks: &Marks,
+    path: &Path,
+    arguments: &[u8],
+    found: &mut Vec<Witness>,
+) -> Result<(), AllocError>
+    ensures { OnOk result (StayWitnesses trial.now found.old.items found.new.items) }
+{
+    if !is_worth_trying(trial, marks, path, arguments, found) {
+        return Ok(());
+    }
+    try_command(alloc, trial, &path.text, arguments, found)
+}
+
+// Tries a command with arguments that one row fits.
+fn try_own(
+    alloc: Global,
+    trial: &Trial<'_, '_>,
+    marks: &Marks,
+    text: &Own,
+    found: &mut Vec<Witness>,
+) -> Result<(), AllocError>
+    ensures { OnOk result (StayWitnesses trial.now found.old.items found.new.items) }
+{
+    match trial.probes.paths.get(text.path) {
+        None => Ok(()),
+        Some(path) => try_text(alloc, trial, marks, path, &text.arguments, found),
+    }
+}
+
+// Marks an index. Returns whether it was not marked before.
+fn is_first(tried: &mut [bool], index: usize) -> bool {
+    match tried.get_mut(index) {
+        None => false,
+        Some(mark) => {
+            let first = !*mark;
+            *mark = true;
+            first
+        }
+    }
+}
+
+// Tries the command with arguments at an index, unless it was tried before.
+fn try_own_at(
+    alloc: Global,
+    trial: &Trial<'_, '_>,
+    marks: &Marks,
+    index: usize,
+    tried: &mut [bool],
+    found: &mut Vec<Witness>,
+) -> Result<(), AllocError>
+    ensures { OnOk result (StayWitnesses trial.now found.old.items found.new.items) }
+{
+    if !is_first(tried, index) {
+        return Ok(());
+    }
+    match trial.probes.own.get(index) {
+        None => Ok(()),
+        Some(text) => try_own(alloc, trial, marks, text, found),
+    }
+}
+
+// Tries commands with arguments that one row fits, but for those that were tried before.
+fn try_all_own(
+    alloc: Global,
+    trial: &Trial<'_, '_>,
+    marks: &Marks,
+    indices: &[usize],
+    tried: &mut [bool],
+    found: &mut Vec<Witness>,
+) -> Result<(), AllocError>
+    ensures { OnOk result (StayWitnesses trial.now found.old.items found.new.items) }
+{
+    for index in indices {
+        try_own_at(alloc, trial, marks, *index, tried, found)?;
+    }
+    Ok(())
+}
+
+// Whether the last rows that the path fits take any arguments: then all of them are answered alike.
+fn takes_all(trial: &Trial<'_, '_>, marks: &Marks, path: &Path) -> bool {
+    takes_any(last_marked(&trial.parts.old, &marks.old, &path.old))
+        && takes_any(last_marked(&trial.parts.new, &marks.new, &path.new))
+}
+
+// Returns the first of the arguments alone, if all are answered alike.
+fn needed<'g, 'u>(
+    trial: &Trial<'_, '_>,
+    marks: &Marks,
+    path: &Path,
+    given: &'g [&'u [u8]],
+) -> &'g [&'u [u8]] {
+    if given.len() > 1 && takes_all(trial, marks, path) {
+        &given[..1]
+    } else {
+        given
+    }
+}
+
+// Tries the path with each of these arguments.
 fn try_path(
     alloc: Global,
-    changed: &Changed<'_, '_>,
-    command: &[u8],
-    given: &[Vec<u8>],
+    trial: &Trial<'_, '_>,
+    marks: &Marks,
+    path: &Path,
+    given: &[&[u8]],
     found: &mut Vec<Witness>,
 ) -> Result<(), AllocError>
-    ensures { OnOk result (All (IsShownWitness changed.now.all_old.now
-        changed.now.all_new.now) found.old.items → All (IsShownWitness
-        changed.now.all_old.now changed.now.all_new.now) found.new.items) }
+    ensures { OnOk result (StayWitnesses trial.now found.old.items found.new.items) }
 {
-    if !may_fit(changed, command) {
+    for arguments in needed(trial, marks, path, given) {
+        try_text(alloc, trial, marks, path, arguments, found)?;
+    }
+    Ok(())
+}
+
+// Tries the path at an index with each of these arguments, unless it was tried before.
+fn try_path_at(
+    alloc: Global,
+    trial: &Trial<'_, '_>,
+    marks: &Marks,
+    index: usize,
+    given: &[&[u8]],
+    tried: &mut [bool],
+    found: &mut Vec<Witness>,
+) -> Result<(), AllocError>
+    ensures { OnOk result (StayWitnesses trial.now found.old.items found.new.items) }
+{
+    if !is_first(tried, index) {
         return Ok(());
     }
-    let fitting = Fitting::of(alloc, changed, command)?;
-    for arguments in given {
-        try_arguments(
-            alloc,
-            changed,
-            &fitting,
-            command,
-            arguments.as_slice(),
-            found,
-        )?;
+    match trial.probes.paths.get(index) {
+        None => Ok(()),
+        Some(path) => try_path(alloc, trial, marks, path, given, found),
     }
-    Ok(())
 }
 
-// Does the same, unless the command was tried before.
-fn try_other_path(
+// Tries each of the paths with each of these arguments, but for those that were tried before.
+fn try_paths(
     alloc: Global,
-    changed: &Changed<'_, '_>,
-    command: Vec<u8>,
-    given: &[Vec<u8>],
-    tried: &mut Vec<Vec<u8>>,
+    trial: &Trial<'_, '_>,
+    marks: &Marks,
+    paths: &[usize],
+    given: &[&[u8]],
+    tried: &mut [bool],
     found: &mut Vec<Witness>,
 ) -> Result<(), AllocError>
-    ensures { OnOk result (All (IsShownWitness changed.now.all_old.now
-        changed.now.all_new.now) found.old.items → All (IsShownWitness
-        changed.now.all_old.now changed.now.all_new.now) found.new.items) }
+    ensures { OnOk result (StayWitnesses trial.now found.old.items found.new.items) }
 {
-    if has_text(tried, &command) {
-        return Ok(());
-    }
-    try_path(alloc, changed, &command, given, found)?;
-    tried.push(command)?;
-    Ok(())
-}
-
-// Tries commands that the rows fit, each with arguments that the same row fits, but for those that were tried before.
-fn try_own_arguments(
-    alloc: Global,
-    changed: &Changed<'_, '_>,
-    rows: &[Ruled<'_>],
-    tried: &mut Vec<Candidate>,
-    found: &mut Vec<Witness>,
-) -> Result<(), AllocError>
-    ensures { OnOk result (All (IsShownWitness changed.now.all_old.now
-        changed.now.all_new.now) found.old.items → All (IsShownWitness
-        changed.now.all_old.now changed.now.all_new.now) found.new.items) }
-{
-    for row in rows {
-        try_own(alloc, changed, row.shape, tried, found)?;
+    for index in paths {
+        try_path_at(alloc, trial, marks, *index, given, tried, found)?;
     }
     Ok(())
 }
 
-// Tries commands that the rows fit, each with all these arguments, but for those that were tried before.
-fn try_given_arguments(
+// Tries what the rows of the blocks give: commands with their own arguments, and then each path with each of these arguments.
+fn try_blocks(
     alloc: Global,
-    changed: &Changed<'_, '_>,
-    rows: &[Ruled<'_>],
-    given: &[Vec<u8>],
-    tried: &mut Vec<Vec<u8>>,
-    found: &mut Vec<Witness>,
-) -> Result<(), AllocError>
-    ensures { OnOk result (All (IsShownWitness changed.now.all_old.now
-        changed.now.all_new.now) found.old.items → All (IsShownWitness
-        changed.now.all_old.now changed.now.all_new.now) found.new.items) }
-{
-    for row in rows {
-        let command = own_path(alloc, row.shape)?;
-        try_other_path(alloc, changed, command, given, tried, found)?;
-    }
-    Ok(())
-}
-
-// Tries commands that the rows fit: with their own arguments, and then with these.
-fn try_rows(
-    alloc: Global,
-    changed: &Changed<'_, '_>,
-    rows: &[Ruled<'_>],
-    given: &[Vec<u8>],
+    trial: &Trial<'_, '_>,
+    marks: &Marks,
+    probes: &[BlockProbes],
+    indices: &[usize],
+    given: &[&[u8]],
     tried: &mut Tried,
     found: &mut Vec<Witness>,
 ) -> Result<(), AllocError>
-    ensures { OnOk result (All (IsShownWitness changed.now.all_old.now
-        changed.now.all_new.now) found.old.items → All (IsShownWitness
-        changed.now.all_old.now changed.now.all_new.now) found.new.items) }
+    ensures { OnOk result (StayWitnesses trial.now found.old.items found.new.items) }
 {
-    try_own_arguments(alloc, changed, rows, &mut tried.own, found)?;
-    try_given_arguments(alloc, changed, rows, given, &mut tried.paths, found)
+    try_own_of(alloc, trial, marks, probes, indices, &mut tried.own, found)?;
+    try_paths_of(
+        alloc,
+        trial,
+        marks,
+        probes,
+        indices,
+        given,
+        &mut tried.paths,
+        found,
+    )
+}
+
+// Tries commands of the block at an index with arguments that the same row fits.
+fn try_own_in(
+    alloc: Global,
+    trial: &Trial<'_, '_>,
+    marks: &Marks,
+    probes: &[BlockProbes],
+    index: usize,
+    tried: &mut [bool],
+    found: &mut Vec<Witness>,
+) -> Result<(), AllocError>
+    ensures { OnOk result (StayWitnesses trial.now found.old.items found.new.items) }
+{
+    match probes.get(index) {
+        None => Ok(()),
+        Some(block) => try_all_own(alloc, trial, marks, &block.own, tried, found),
+    }
+}
+
+// Tries commands of the blocks with arguments that the same row fits.
+fn try_own_of(
+    alloc: Global,
+    trial: &Trial<'_, '_>,
+    marks: &Marks,
+    probes: &[BlockProbes],
+    indices: &[usize],
+    tried: &mut [bool],
+    found: &mut Vec<Witness>,
+) -> Result<(), AllocError>
+    ensures { OnOk result (StayWitnesses trial.now found.old.items found.new.items) }
+{
+    for index in indices {
+        try_own_in(alloc, trial, marks, probes, *index, tried, found)?;
+    }
+    Ok(())
+}
+
+// Tries paths of the block at an index with each of these arguments.
+fn try_paths_in(
+    alloc: Global,
+    trial: &Trial<'_, '_>,
+    marks: &Marks,
+    probes: &[BlockProbes],
+    index: usize,
+    given: &[&[u8]],
+    tried: &mut [bool],
+    found: &mut Vec<Witness>,
+) -> Result<(), AllocError>
+    ensures { OnOk result (StayWitnesses trial.now found.old.items found.new.items) }
+{
+    match probes.get(index) {
+        None => Ok(()),
+        Some(block) => try_paths(alloc, trial, marks, &block.paths, given, tried, found),
+    }
+}
+
+// Tries paths of the blocks with each of these arguments.
+fn try_paths_of(
+    alloc: Global,
+    trial: &Trial<'_, '_>,
+    marks: &Marks,
+    probes: &[BlockProbes],
+    indices: &[usize],
+    given: &[&[u8]],
+    tried: &mut [bool],
+    found: &mut Vec<Witness>,
+) -> Result<(), AllocError>
+    ensures { OnOk result (StayWitnesses trial.now found.old.items found.new.items) }
+{
+    for index in indices {
+        try_paths_in(alloc, trial, marks, probes, *index, given, tried, found)?;
+    }
+    Ok(())
+}
+
+// Whether the text is among the others.
+fn has_text(texts: &[&[u8]], text: &[u8]) -> bool {
+    texts.iter().any(|other| *other == text)
+}
+
+// Appends texts of arguments that are not among the others, up to 32.
+fn push_texts<'t>(texts: &'t [Vec<u8>], given: &mut Vec<&'t [u8]>) -> Result<(), AllocError> {
+    for text in texts {
+        if given.len() < MOST_ARGUMENTS && !has_text(given, text) {
+            given.push(text.as_slice())?;
+        }
+    }
+    Ok(())
+}
+
+// Appends texts of the arguments of the blocks that are not among the others, up to 32.
+fn push_given_by<'t>(
+    probes: &'t [BlockProbes],
+    indices: &[usize],
+    given: &mut Vec<&'t [u8]>,
+) -> Result<(), AllocError> {
+    for index in indices {
+        if let Some(block) = probes.get(*index) {
+            push_texts(&block.arguments, given)?;
+        }
+    }
+    Ok(())
+}
+
+// Tries a command that few patterns fit.
+fn try_rare(
+    alloc: Global,
+    trial: &Trial<'_, '_>,
+    marks: &Marks,
+    found: &mut Vec<Witness>,
+) -> Result<(), AllocError>
+    ensures { OnOk result (StayWitnesses trial.now found.old.items found.new.items) }
+{
+    let Some(index) = trial.probes.rare else {
+        return Ok(());
+    };
+    match trial.probes.paths.get(index) {
+        None => Ok(()),
+        Some(path) => try_text(alloc, trial, marks, path, b"", found),
+    }
 }
 
 /// Returns commands that are answered otherwise: at most one for each answer. Those that rows of the new policy fit are tried
 /// first. Of each pattern the stars are left out, or stand for an `x`; and each path is tried with arguments of other rows.
 /// Returns `AllocError` if allocation fails.
-pub(crate) fn witnesses(
-    alloc: Global,
-    changed: &Changed<'_, '_>,
-) -> Result<Vec<Witness>, AllocError>
-    ensures { IfOk result (λ found. All (IsShownWitness changed.now.all_old.now
-        changed.now.all_new.now) found.items) }
+pub(crate) fn witnesses(alloc: Global, trial: &Trial<'_, '_>) -> Result<Vec<Witness>, AllocError>
+    ensures { IfOk result (λ found. All (IsShownWitness trial.now.old_rows.now
+        trial.now.new_rows.now) found.items) }
 {
-    let given = given_texts(alloc, &changed.old, &changed.new)?;
-    let mut tried = Tried {
-        own: Vec::new(alloc),
-        paths: Vec::new(alloc),
-    };
+    let marks = marks_of(alloc, trial)?;
+    let (old, new) = (&trial.probes.old, &trial.probes.new);
+    let mut given = Vec::new(alloc);
+    push_given_by(new, trial.new, &mut given)?;
+    push_given_by(old, trial.old, &mut given)?;
+    let mut tried = untried(alloc, trial.probes)?;
     let mut found = Vec::new(alloc);
-    try_rows(alloc, changed, &changed.new, &given, &mut tried, &mut found)?;
-    try_rows(alloc, changed, &changed.old, &given, &mut tried, &mut found)?;
-    let rare = rare_candidate(alloc)?;
-    try_text(alloc, changed, &rare, &mut found)?;
+    try_blocks(
+        alloc, trial, &marks, new, trial.new, &given, &mut tried, &mut found,
+    )?;
+    try_blocks(
+        alloc, trial, &marks, old, trial.old, &given, &mut tried, &mut found,
+    )?;
+    try_rare(alloc, trial, &marks, &mut found)?;
     Ok(found)
 }

@@ -1,5 +1,5 @@
 -- Classes of asks; only proofs of bodies need these definitions.
-use Rattle.std.specs.Prelude.{◌≡◌, ◌⊎◌, List, [], ◌∷◌, filter}
+use Rattle.std.specs.Prelude.{◌≡◌, ◌⊎◌, ℕ, List, [], ◌∷◌, filter, Option}
 use Rattle.std.specs.List.{Contains}
 use Rattle.sudo_match.specs.declared.people.Machine.{Machine}
 use Rattle.sudo_match.specs.declared.people.Person.{Person}
@@ -41,15 +41,23 @@ pub record Decide (p : Pair) (u : Person) (a : Ask) (l : Listed) : Type 0 where
 abbrev pub IsAskedWith : AskedWith → Ask → Type 0
 IsAskedWith w a = (w.group ≡ a.group) × Contains w.targets.items a.target
 
+-- the targets with their group, as lists
+abbrev pub plain : AskedWith → Option ℕ × List (Option ℕ)
+plain w = (w.group, w.targets.items)
+
 -- the ask is among them
 abbrev pub AreAsked : List AskedWith → Ask → Type 0
 AreAsked [] a = ⊥
 AreAsked (w ∷ ws) a = IsAskedWith w a ⊎ AreAsked ws a
 
+-- the ask is among those of one of these
+abbrev pub HaveIn : {K : Type 0} → (K → List AskedWith) → List K → Ask → Type 0
+HaveIn asked [] a = ⊥
+HaveIn asked (k ∷ ks) a = AreAsked (asked k) a ⊎ HaveIn asked ks a
+
 -- one of the classes has the ask
 abbrev pub HaveAsk : List AskClass → Ask → Type 0
-HaveAsk [] a = ⊥
-HaveAsk (k ∷ ks) a = AreAsked k.asked.items a ⊎ HaveAsk ks a
+HaveAsk ks a = HaveIn (λ k. k.asked.items) ks a
 
 -- the asks with a further one
 pub record AddsAsked (old : List AskedWith) (ask : Ask) (new : List AskedWith) : Type 0 where

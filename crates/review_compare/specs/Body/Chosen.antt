@@ -1,5 +1,5 @@
 -- The blocks that stand for a question, by their indices; only proofs of bodies need these definitions.
-use Rattle.std.specs.Prelude.{◌≡◌, ℕ, Bool, true, false, ◌&&◌, if◌then◌else◌, List, [], flat_map, map, slice_get, Option, Some}
+use Rattle.std.specs.Prelude.{◌≡◌, ℕ, Bool, true, false, ◌&&◌, if◌then◌else◌, List, [], flat_map, get_or, map, slice_get, Option, Some}
 use Rattle.std.specs.Prelude.{None, is_none, is_some, option_copied, ◌||◌}
 use Rattle.sudo_grammar.specs.declared.policy.Runas.{Runas}
 use Rattle.std.specs.List.{list_all}
@@ -87,3 +87,7 @@ abbrev pub depends_on_user : Option Runas → Option Person → Bool
 depends_on_user r None = true
 depends_on_user None (Some t) = false
 depends_on_user (Some r) (Some t) = is_some r.groups || is_none r.users
+
+-- where it was looked up, this is whether the host list of the block at an index allows the host
+abbrev pub AreMarks : Policy → List Block → Machine → List (Option Bool) → Type 0
+AreMarks p bs m marks = (i : ℕ) (b : Bool) → get_or marks i None ≡ Some b → b ≡ host_at p bs m i

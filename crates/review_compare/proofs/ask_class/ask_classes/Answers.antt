@@ -1,25 +1,31 @@
 use Rattle.std.proofs.Common.{List, arith, subst, sym}
-use Rattle.std.specs.List.{Contains}
 use Rattle.std.proofs.lemmas.List.{take_all}
-use Rattle.review_roots.proofs.ListSteps.{index-there}
-use Rattle.review_compare.specs.declared.cell.Ask.{Ask}
-use Rattle.review_compare.proofs.AskLemmas.{asks-more}
+use Rattle.review_compare.specs.declared.ask_class.AskedWith.{AskedWith}
+use Rattle.review_compare.specs.declared.shared.SharedAsks.{SharedAsks}
+use Rattle.review_compare.specs.Body.AskClasses.{HaveAsk}
+use Rattle.review_compare.specs.Body.SharedAsks.{HaveShared}
+use Rattle.review_compare.proofs.AskLemmas.{more-in}
 use Rattle.review_compare.proofs.ask_class.ask_classes.Goals as goal
 
-pub loop-ask-preserved : goal.loop-ask-preserved
-loop-ask-preserved c =
-    let n = c.loop-ask.ask-index in
-    let asks = c.args.asks.now in
-    let adds = c.in_ok-add_ask.ensures in (
+abbrev asked_of : SharedAsks → List AskedWith
+asked_of s = s.asked.items
+
+pub loop-each-preserved : goal.loop-each-preserved
+loop-each-preserved c =
+    let n = c.loop-each.each-index in
+    let ss = c.args.shared.now in
+    let adds = c.in_ok-add_shared.ensures in (
       adds.are,
-      asks-more asks n _ c.loop-ask.classes.items c.add_ask.new.classes.items c.loop-ask-test.true
-          (index-there asks n _ c.loop-ask-test.true) c.loop-ask.invariant.1 adds.kept adds.has,
+      λ a there. adds.kept a (c.loop-each.invariant.1 a there),
+      more-in asked_of ss n c.each-item.result (HaveAsk c.add_shared.new.classes.items) c.loop-each-test.true c.each-item.is
+          (λ a e. adds.kept a (c.loop-each.invariant.2 a e)) adds.has,
     )
 
 pub returns : goal.returns
 returns c = record {
-  are = c.loop-ask.invariant.0;
-  all = λ a there. c.loop-ask.invariant.1 a
-      (subst (λ (asks : List Ask). Contains asks a)
-      (sym (take_all c.loop-ask.ask-index c.args.asks.now (omega (arith, c.loop-ask-test.false)))) there);
+  are = c.loop-each.invariant.0;
+  own = c.loop-each.invariant.1;
+  shared = λ a there. c.loop-each.invariant.2 a
+      (subst (λ (ss : List SharedAsks). HaveShared ss a)
+      (sym (take_all c.loop-each.each-index c.args.shared.now (omega (arith, c.loop-each-test.false)))) there);
 }

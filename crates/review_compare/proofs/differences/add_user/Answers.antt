@@ -6,7 +6,7 @@ use Rattle.review_compare.proofs.differences.add_user.Goals as goal
 pub returns-then-not-is_this_user : goal.returns-then-not-is_this_user
 returns-then-not-is_this_user c = record {
   added = other-user c.args.pair.now c.args.rows.now.items c.args.user c.args.person.now (option_copied c.args.scope.user)
-      (option_copied c.args.scope.host) c.args.asks.now c.requires.user (sym c.is_this_user.ensures ∙ c.if-not-is_this_user.true);
+      (option_copied c.args.scope.host) c.args.asks.now.all.items c.requires.user (sym c.is_this_user.ensures ∙ c.if-not-is_this_user.true);
   right = c.requires.right;
 }
 
@@ -14,7 +14,7 @@ pub returns : goal.returns
 returns c = record {
   added = on_ok c.absorb_all.result
       (for-user c.args.pair.now c.args.rows.now.items c.in_ok-more.more.items c.absorb_all.new.rows.items
-      (option_copied c.args.scope.user) (option_copied c.args.scope.host) c.args.user c.args.asks.now c.in_ok-more.ensures.all)
+      (option_copied c.args.scope.user) (option_copied c.args.scope.host) c.args.user c.args.asks.now.all.items c.in_ok-more.ensures.all)
       c.absorb_all.ensures;
   right = on_ok c.absorb_all.result (λ x. c.in_ok-more.ensures.right) c.absorb_all.ensures;
 }
@@ -22,6 +22,6 @@ returns c = record {
 pub returns-then-not-may_differ_for : goal.returns-then-not-may_differ_for
 returns-then-not-may_differ_for c = record {
   added = same-for-user c.args.pair.now c.args.rows.now.items c.args.user c.args.person.now (option_copied c.args.scope.user)
-      (option_copied c.args.scope.host) c.args.asks.now c.requires.user (c.may_differ_for.ensures c.if-not-may_differ_for.true);
+      (option_copied c.args.scope.host) c.args.asks.now.all.items c.requires.user (c.may_differ_for.ensures c.if-not-may_differ_for.true);
   right = c.requires.right;
 }

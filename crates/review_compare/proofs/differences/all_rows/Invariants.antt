@@ -5,5 +5,5 @@ use Rattle.review_compare.proofs.differences.all_rows.Given as goal
 
 abbrev pub invariant-loop-user : goal.invariant-loop-user
 invariant-loop-user l = Progress l.pair [] l.rows.items (IsUserBefore l.pair (option_copied l.scope.user)
-    (option_copied l.scope.host) l.user l.asks)
+    (option_copied l.scope.host) l.user l.asks.all.items)
     × All (IsRight l.pair) l.comparisons.items

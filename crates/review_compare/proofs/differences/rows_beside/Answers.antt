@@ -4,23 +4,32 @@ use Rattle.std.proofs.lemmas.Result.{IfOk-weaker}
 use Rattle.review_compare.specs.declared.ask_class.AskClass.{AskClass}
 use Rattle.review_compare.specs.declared.cell.Ask.{Ask}
 use Rattle.review_compare.specs.declared.row.Row.{Row}
+use Rattle.review_compare.specs.declared.shared.SharedAsks.{SharedAsks}
 use Rattle.review_compare.specs.Body.AskClasses.{HaveAsk}
-use Rattle.review_compare.proofs.DifferenceLemmas.{asks-left, each-asked}
+use Rattle.review_compare.specs.Body.Progress.{AreLeft}
+use Rattle.review_compare.specs.Body.SharedAsks.{HaveShared}
+use Rattle.review_compare.proofs.SharedLemmas.{split-asked}
 use Rattle.review_compare.proofs.differences.rows_beside.Goals as goal
 
 pub returns : goal.returns
 returns c =
     let p = c.args.pair.now in
+    let split = c.args.asks.now in
     let scope = option_copied c.args.scope in
     let left = c.in_ok-left.left.items in
-    let held : (a : Ask) → Contains left a → HaveAsk c.in_ok-asked.asked.items a =
-    λ a there. c.in_ok-asked.ensures.all a (subst (λ (asks : List Ask). Contains asks a) (sym c.deref.ensures.value) there) in
+    let classes = c.in_ok-asked.asked.items in
+    let are = subst (λ (asks : List Ask). AreLeft p c.args.person.now asks left) c.deref.ensures.value c.in_ok-left.ensures in
+    let own : (a : Ask) → Contains left a → HaveAsk classes a =
+    λ a there. c.in_ok-asked.ensures.own a (subst (λ (asks : List Ask). Contains asks a) (sym c.deref-2.ensures.value) there) in
+    let shared : (a : Ask) → HaveShared split.shared.items a → HaveAsk classes a =
+    λ a there. c.in_ok-asked.ensures.shared a
+    (subst (λ (ss : List SharedAsks). HaveShared ss a) (sym c.deref-3.ensures.value) there) in
+    let held = λ (a : Ask) (e : HaveAsk classes a). subst (λ (ks : List AskClass). HaveAsk ks a) (sym c.deref-4.ensures.value) e in
     record {
       all = IfOk-weaker c.rows_for_asked.result _ _
           (λ (rows : Vec Row Global) made.
-          asks-left p rows.items c.args.user c.args.person.now scope c.args.asks.now left c.requires.user c.in_ok-left.ensures
-          (each-asked p rows.items scope c.args.user (HaveAsk c.deref-2.result.now) left
-          (λ a there. subst (λ (ks : List AskClass). HaveAsk ks a) (sym c.deref-2.ensures.value) (held a there)) made))
+          split-asked p rows.items c.args.user c.args.person.now scope split left (HaveAsk c.deref-4.result.now) c.requires.user
+          c.requires.split are (λ a there. held a (own a there)) (λ a there. held a (shared a there)) made)
           c.rows_for_asked.ensures.all;
       right = c.rows_for_asked.ensures.right;
     }

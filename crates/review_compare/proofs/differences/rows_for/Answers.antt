@@ -11,8 +11,8 @@ returns-in-None c =
     let p = c.args.pair.now in
     let scope = option_copied c.args.scope in
     record {
-      all = subst (λ (rows : List Row). Progress p [] rows (IsForAsked p scope c.args.user c.args.asks.now)) (sym c.new.ensures.items)
-          (no-hosts p scope c.args.user c.args.asks.now (first-none p.directory.now.machines
+      all = subst (λ (rows : List Row). Progress p [] rows (IsForAsked p scope c.args.user c.args.asks.now.all.items))
+          (sym c.new.ensures.items) (no-hosts p scope c.args.user c.args.asks.now.all.items (first-none p.directory.now.machines
           (ap (λ (ms : List Machine). slice_get ms 0) (sym c.machines.ensures) ∙ sym c.first.ensures.value
           ∙ ap option_copied c.in-None.is)));
       right = c.requires.right;

@@ -1,15 +1,19 @@
-use Rattle.std.proofs.Common.{Global, Vec, option_copied, subst, sym}
+use Rattle.std.proofs.Common.{[], Global, List, Vec, option_copied, subst, sym}
 use Rattle.std.proofs.lemmas.Result.{IfOk-weaker}
+use Rattle.review_compare.specs.declared.cell.Ask.{Ask}
 use Rattle.review_compare.specs.declared.row.Row.{Row}
-use Rattle.review_compare.specs.Body.Progress.{AreLeftForAll}
+use Rattle.review_compare.specs.Body.Progress.{AreLeftForAll, IsAsked, Progress}
 use Rattle.review_compare.proofs.DifferenceLemmas.{all-asks-left}
 use Rattle.review_compare.proofs.differences.rows_where_asked.Goals as goal
 
-pub returns-in_ok-left-in-Some-Some : goal.returns-in_ok-left-in-Some-Some
-returns-in_ok-left-in-Some-Some c =
+pub returns-in_ok-split-in-Some-Some : goal.returns-in_ok-split-in-Some-Some
+returns-in_ok-split-in-Some-Some c =
+    let p = c.args.pair.now in
+    let about = option_copied c.args.scope.user in
+    let on = option_copied c.args.scope.host in
     IfOk-weaker c.all_rows.result _ _
     (λ (rows : Vec Row Global) made.
-    all-asks-left c.args.pair.now rows.items (option_copied c.args.scope.user) (option_copied c.args.scope.host) c.args.asks.now
-    c.deref.result.now (subst (AreLeftForAll c.args.pair.now c.args.asks.now) (sym c.deref.ensures.value) c.in_ok-left-in-Some-Some.ensures)
-    made)
+    all-asks-left p rows.items about on c.args.asks.now c.deref.result.now
+    (subst (AreLeftForAll p c.args.asks.now) (sym c.deref.ensures.value) c.in_ok-left-in-Some-Some.ensures)
+    (subst (λ (asks : List Ask). Progress p [] rows.items (IsAsked p about on asks)) c.in_ok-split-in-Some-Some.ensures.all made))
     c.all_rows.ensures

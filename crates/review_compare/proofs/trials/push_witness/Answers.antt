@@ -6,6 +6,6 @@ use Rattle.review_compare.proofs.trials.push_witness.Goals as goal
 
 pub returns-in_ok-push : goal.returns-in_ok-push
 returns-in_ok-push c = λ all.
-    let k = c.args.changed.now in
-    subst (λ (ws : List Witness). All (IsShownWitness k.all_old.now k.all_new.now) ws) (sym c.in_ok-push.ensures.items)
-    (All-push (IsShownWitness k.all_old.now k.all_new.now) c.args.found.now.items c.args.witness all c.requires)
+    let t = c.args.trial.now in
+    subst (λ (ws : List Witness). All (IsShownWitness t.old_rows.now t.new_rows.now) ws) (sym c.in_ok-push.ensures.items)
+    (All-push (IsShownWitness t.old_rows.now t.new_rows.now) c.args.found.now.items c.args.witness all c.requires)

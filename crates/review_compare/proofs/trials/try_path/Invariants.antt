@@ -1,7 +1,5 @@
-use Rattle.std.proofs.Common.{All}
-use Rattle.review_compare.specs.Body.Shown.{IsShownWitness}
+use Rattle.review_compare.specs.Body.Trials.{StayWitnesses}
 use Rattle.review_compare.proofs.trials.try_path.Given as goal
 
 abbrev pub invariant-loop-arguments : goal.invariant-loop-arguments
-invariant-loop-arguments l = All (IsShownWitness l.changed.all_old.now l.changed.all_new.now) l.initial.found.items
-    → All (IsShownWitness l.changed.all_old.now l.changed.all_new.now) l.found.items
+invariant-loop-arguments l = StayWitnesses l.trial l.initial.found.items l.found.items

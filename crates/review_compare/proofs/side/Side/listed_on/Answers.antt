@@ -15,15 +15,15 @@ loop-index-preserved c =
     let i = get_or c.args.listed.now k 0 in
     record {
       all = λ q on at.
-          flat-more (standing_at p bs q on) (standing_at p bs q on) c.lists_host_at.result i c.loop-index.indices.items
+          flat-more (standing_at p bs q on) (standing_at p bs q on) c.lists_host_by.result i c.loop-index.indices.items
           c.push_if.new.indices.items c.in_ok-push_if.ensures (λ keep. refl) (λ leave. no-host p bs m q on i at
-          (sym c.lists_host_at.ensures ∙ leave))
+          (sym c.lists_host_by.ensures ∙ leave))
           ∙ ap (λ ds. ds ++ standing_at p bs q on i) (c.loop-index.invariant.all q on at)
           ∙ sym (flat-take (standing_at p bs q on) c.args.listed.now k c.loop-index-test.true);
-      each = all-more (listed_at p bs u m) c.lists_host_at.result i c.loop-index.indices.items c.push_if.new.indices.items
+      each = all-more (listed_at p bs u m) c.lists_host_by.result i c.loop-index.indices.items c.push_if.new.indices.items
           c.in_ok-push_if.ensures
           (λ keep. and_from (user_at p bs u i) (host_at p bs m i)
-          (all-at (user_at p bs u) c.args.listed.now k c.loop-index-test.true c.requires) (sym c.lists_host_at.ensures ∙ keep))
+          (all-at (user_at p bs u) c.args.listed.now k c.loop-index-test.true c.requires.listed) (sym c.lists_host_by.ensures ∙ keep))
           c.loop-index.invariant.each;
     }
 

@@ -1,0 +1,247 @@
+//! Asks that the same near rows decide, whoever asks: which blocks these are is found once for all of them.
+ghost use Rattle.std.specs.Prelude.{◌≡◌, ◌<◌, ◌⊎◌, [], All, get_or, IfOk, IfSome, length, OnOk, true};
+ghost use Rattle.std.specs.List.{Contains};
+ghost use Rattle.review_compare.specs.declared.cell.Ask.{Ask as TheAsk};
+ghost use Rattle.review_compare.specs.declared.shared.SharedAsks.{SharedAsks as TheSharedAsks};
+ghost use Rattle.review_compare.specs.Body.AskClasses.{AddsAsked};
+ghost use Rattle.review_compare.specs.Body.SharedAsks as body;
+ghost use Rattle.review_compare.specs.Body.Whoever.{AreAnswered, AreFormsIn};
+
+use crate::ask_class::{AskedWith, push_asked};
+use crate::asks::{group_at, person_at};
+use crate::cell::Ask;
+use crate::pair::Pair;
+use crate::spot::Listed;
+use crate::whoever::are_equal;
+use std::alloc::{AllocError, Global};
+use sudo_match::{Machine, Person};
+use sudo_verdict::Asker;
+
+/// Asks to which the blocks near a change answer the same, whoever asks: the first, what blocks with each runas answer, and all of
+/// them.
+#[derive(Drop)]
+pub(crate) struct SharedAsks {
+    pub(crate) first: Ask,
+    pub(crate) old: Vec<bool>,
+    pub(crate) new: Vec<bool>,
+    pub(crate) asked: Vec<AskedWith>,
+}
+
+/// All asks, those of them in classes for all users, and the others.
+#[derive(Drop)]
+pub(crate) struct SplitAsks {
+    pub(crate) all: Vec<Ask>,
+    pub(crate) shared: Vec<SharedAsks>,
+    pub(crate) own: Vec<Ask>,
+}
+
+// What blocks of both policies answer.
+#[derive(Drop)]
+struct Answers {
+    old: Vec<bool>,
+    new: Vec<bool>,
+}
+
+// Returns of the blocks near the change one for each runas.
+fn forms_near(alloc: Global, pair: &Pair<'_>) -> Result<Listed, AllocError>
+    ensures { IfOk result (AreFormsIn pair.now) }
+{
+    let old = pair.old.forms_of(alloc, &pair.near.old)?;
+    let new = pair.new.forms_of(alloc, &pair.near.new)?;
+    Ok(Listed { old, new })
+}
+
+// Returns what the blocks answer to each user who asks for this, if that is known to be the same. The user and the host are any
+// known ones.
+fn answers_to(
+    alloc: Global,
+    pair: &Pair<'_>,
+    person: &Person,
+    machine: &Machine,
+    forms: &Listed,
+    ask: Ask,
+) -> Result<Option<Answers>, AllocError>
+    ensures { IfOk result (λ found. IfSome found (λ answers.
+        AreAnswered pair.now forms.now ask answers.old.items answers.new.items)) }
+{
+    let asker = Asker {
+        user: person,
+        host: machine,
+        target: person_at(pair.directory, ask.target),
+        group: group_at(pair.groups, ask.group),
+    };
+    let Some(old) = pair
+        .old
+        .answers_by(alloc, pair.directory, asker, &forms.old)?
+    else {
+        return Ok(None);
+    };
+    let Some(new) = pair
+        .new
+        .answers_by(alloc, pair.directory, asker, &forms.new)?
+    else {
+        return Ok(None);
+    };
+    Ok(Some(Answers { old, new }))
+}
+
+fn are_same_answers(answers: &[bool], others: &[bool]) -> bool
+    ensures { result ≡ true → answers.now ≡ others.now }
+{
+    let mut own = answers;
+    let mut left = others;
+    while let [answer, rest @ ..] = own {
+        let [other, more @ ..] = left else {
+            return false;
+        };
+        if !are_equal(*answer, *other) {
+            return false;
+        }
+        own = rest;
+        left = more;
+    }
+    left.is_empty()
+}
+
+// Whether the blocks of both policies answer so to the asks.
+fn are_answered(shared: &SharedAsks, answers: &Answers) -> bool
+    ensures { result ≡ true → (shared.now.old.items ≡ answers.now.old.items)
+        × (shared.now.new.items ≡ answers.now.new.items) }
+{
+    if !are_same_answers(&shared.old, &answers.old) {
+        return false;
+    }
+    are_same_answers(&shared.new, &answers.new)
+}
+
+// Returns the index of the asks to which the blocks answer so, if there are any.
+fn index_of(shared: &[SharedAsks], answers: &Answers) -> Option<usize>
+    ensures { IfSome result (λ i. (i < length shared.now) × ((d : TheSharedAsks)
+        → ((get_or shared.now i d).old.items ≡ answers.now.old.items)
+        × ((get_or shared.now i d).new.items ≡ answers.now.new.items))) }
+{
+    for index in 0..shared.len() {
+        if are_answered(&shared[index], answers) {
+            return Some(index);
+        }
+    }
+    None
+}
+
+// Returns the ask alone, with what the blocks answer to it.
+fn shared_alone(alloc: Global, answers: Answers, ask: Ask) -> Result<SharedAsks, AllocError>
+    ensures { IfOk result (λ s. (s.first ≡ ask) × (s.old.items ≡ answers.old.items)
+        × (s.new.items ≡ answers.new.items) × AddsAsked [] ask s.asked.items) }
+{
+    let mut asked = Vec::new(alloc);
+    push_asked(alloc, &mut asked, ask)?;
+    Ok(SharedAsks {
+        first: ask,
+        old: answers.old,
+        new: answers.new,
+        asked,
+    })
+}
+
+// Adds the ask to those to which the blocks answer so.
+fn add_shared(
+    alloc: Global,
+    pair: &Pair<'_>,
+    forms: &Listed,
+    answers: Answers,
+    ask: Ask,
+    shared: &mut Vec<SharedAsks>,
+) -> Result<(), AllocError>
+    requires answered { AreAnswered pair.now forms.now ask answers.old.items answers.new.items }
+    requires are { All (body.IsAnsweredAlike pair.now forms.now) shared.old.items }
+    ensures are { OnOk result (All (body.IsAnsweredAlike pair.entry.now forms.entry.now)
+        shared.new.items) }
+    ensures has { OnOk result (body.HaveShared shared.new.items ask) }
+    ensures kept { OnOk result ((a : TheAsk) → body.HaveShared shared.old.items a
+        → body.HaveShared shared.new.items a) }
+{
+    match index_of(shared, &answers) {
+        Some(index) => push_asked(alloc, &mut shared[index].asked, ask),
+        None => {
+            let alone = shared_alone(alloc, answers, ask)?;
+            shared.push(alone)?;
+            Ok(())
+        }
+    }
+}
+
+// Adds the ask to those to which the blocks answer the same, whoever asks, if they do, and otherwise to the others.
+fn split_ask(
+    alloc: Global,
+    pair: &Pair<'_>,
+    person: &Person,
+    machine: &Machine,
+    forms: &Listed,
+    ask: Ask,
+    shared: &mut Vec<SharedAsks>,
+    own: &mut Vec<Ask>,
+) -> Result<(), AllocError>
+    requires { All (body.IsAnsweredAlike pair.now forms.now) shared.old.items }
+    ensures are { OnOk result (All (body.IsAnsweredAlike pair.entry.now forms.entry.now)
+        shared.new.items) }
+    ensures has { OnOk result (Contains own.new.items ask ⊎ body.HaveShared shared.new.items ask) }
+    ensures kept { OnOk result ((a : TheAsk) → (Contains own.old.items a → Contains own.new.items a)
+        × (body.HaveShared shared.old.items a → body.HaveShared shared.new.items a)) }
+{
+    match answers_to(alloc, pair, person, machine, forms, ask)? {
+        Some(answers) => add_shared(alloc, pair, forms, answers, ask, shared),
+        None => {
+            own.push(ask)?;
+            Ok(())
+        }
+    }
+}
+
+/// Splits asks into those that the same near rows decide, whoever asks, in classes, and the others. The user and the host are any
+/// known ones. Returns `AllocError` if allocation fails.
+pub(crate) fn split_asks(
+    alloc: Global,
+    pair: &Pair<'_>,
+    person: &Person,
+    machine: &Machine,
+    asks: &[Ask],
+) -> Result<SplitAsks, AllocError>
+    ensures split { IfOk result (body.IsSplit pair.now) }
+    ensures all { IfOk result (λ split. split.all.items ≡ asks.now) }
+{
+    let forms = forms_near(alloc, pair)?;
+    let mut shared = Vec::new(alloc);
+    let mut own = Vec::new(alloc);
+    for ask in asks {
+        split_ask(
+            alloc,
+            pair,
+            person,
+            machine,
+            &forms,
+            *ask,
+            &mut shared,
+            &mut own,
+        )?;
+    }
+    let all = Vec::from_slice(alloc, asks)?;
+    Ok(SplitAsks { all, shared, own })
+}
+
+/// Returns asks of which none is shared. Returns `AllocError` if allocation fails.
+pub(crate) fn unshared_asks(
+    alloc: Global,
+    pair: &Pair<'_>,
+    asks: &[Ask],
+) -> Result<SplitAsks, AllocError>
+    ensures split { IfOk result (body.IsSplit pair.now) }
+    ensures all { IfOk result (λ split. split.all.items ≡ asks.now) }
+{
+    let all = Vec::from_slice(alloc, asks)?;
+    let own = Vec::from_slice(alloc, asks)?;
+    Ok(SplitAsks {
+        all,
+        shared: Vec::new(alloc),
+        own,
+    })
+}
