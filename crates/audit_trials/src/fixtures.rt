@@ -70,8 +70,8 @@ pub(crate) struct Ground {
 
 /// Returns the policy and the directory above.
 pub(crate) fn make_ground(alloc: Global) -> Result<Ground, Fail> {
-    let policy = policy(alloc)?;
     let directory = directory(alloc)?;
+    let policy = policy(alloc)?;
     Ok(Ground { policy, directory })
 }
 

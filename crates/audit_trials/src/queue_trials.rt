@@ -87,7 +87,9 @@ fn used_by<R: Wait>(
 // A function of its own drops the ground, so that no assertion has to.
 fn used_anew<R: Wait>(alloc: Global, rt: &R) -> Result<(u32, bool, Option<u32>), Fail> {
     let ground = make_ground(alloc)?;
-    used_by(alloc, rt, &ground)
+    let used = used_by(alloc, rt, &ground);
+    drop(ground);
+    used
 }
 
 #[test]

@@ -165,19 +165,37 @@ fn both(
     }
 }
 
-// Returns the report on the requests.
-fn report(alloc: Global, policy: &Checked, requests: Requests) -> Result<Report, Fail> {
-    let directory = directory(alloc)?;
+// Returns the answer to a request.
+fn answer(
+    alloc: Global,
+    policy: &Checked,
+    directory: &Directory,
+    request: Request,
+) -> Result<Answer, Fail> {
+    let verdict = both(alloc, policy, directory, &request)?;
+    Ok(Answer {
+        sender: 0,
+        request,
+        verdict,
+    })
+}
+
+// Returns the answers to the requests.
+fn answers(
+    alloc: Global,
+    policy: &Checked,
+    directory: &Directory,
+    requests: Requests,
+) -> Result<Vec<Answer>, Fail> {
     let mut answers = Vec::new(alloc);
     for request in requests.list.into_vec() {
-        let verdict = both(alloc, policy, &directory, &request)?;
-        answers.push(Answer {
-            sender: 0,
-            request,
-            verdict,
-        })?;
+        answers.push(answer(alloc, policy, directory, request)?)?;
     }
-    drop(directory);
+    Ok(answers)
+}
+
+// Returns the report on one sender, with these answers.
+fn of_one_sender(alloc: Global, answers: Vec<Answer>) -> Result<Report, Fail> {
     let mut senders = Vec::new(alloc);
     senders.push(SenderReport {
         name: Seq::from_slice(alloc, b"s")?,
@@ -186,6 +204,14 @@ fn report(alloc: Global, policy: &Checked, requests: Requests) -> Result<Report,
     Ok(Report {
         senders: Seq::from_vec(senders),
     })
+}
+
+// Returns the report on the requests.
+fn report(alloc: Global, policy: &Checked, requests: Requests) -> Result<Report, Fail> {
+    let directory = directory(alloc)?;
+    let answers = answers(alloc, policy, &directory, requests);
+    drop(directory);
+    of_one_sender(alloc, answers?)
 }
 
 // Returns the report on a request under a policy.
