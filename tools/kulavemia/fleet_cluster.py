@@ -33,6 +33,8 @@ from kulavemia.fleet_work import FAILED, UNFIT, Answer, Job, settled
 CONNECTION = 5.0
 PATIENCE = 60.0
 TICK = 1.0
+# Seconds for which a shard waits for another worker where each that is known had it in vain.
+PAUSE = 5.0
 WAITING = 4
 GOES_ON = "what is done stands, and the same command goes on"
 PAGE = "info/main/workers.html"
@@ -114,6 +116,7 @@ class _Shard:
         self.unfit: set[str] = set()
         self.wanted: set[str] = set()
         self.alone = False
+        self.waits_until = 0.0
 
 
 class Runner:
@@ -127,6 +130,7 @@ class Runner:
         self.ended: queue.SimpleQueue[Future] = queue.SimpleQueue()
         self.running: dict[str, tuple[Future, _Shard]] = {}
         self.suspects: list[_Shard] = []
+        self.waiting: list[_Shard] = []
         self.workers: dict[str, Any] = {}
         self.asked = -TICK
         self.seen = time.monotonic()
@@ -165,15 +169,16 @@ class Runner:
     def _run(self, jobs: Iterator[Job]) -> Iterator[tuple[Job, Answer]]:
         more = True
         while True:
-            while more and len(self.running) < self._room():
+            while more and len(self.running) + len(self.waiting) < self._room():
                 job = next(jobs, None)
                 if job is None:
                     more = False
                 else:
                     self._submit(_Shard(travelling(job)))
-            if not self.running and not self.suspects:
+            self._try_waiting()
+            if not (self.running or self.suspects or self.waiting):
                 return
-            if not self.running:
+            if self.suspects and not (self.running or self.waiting):
                 shard = self.suspects.pop()
                 shard.alone = True
                 self._submit(shard)
@@ -200,6 +205,18 @@ class Runner:
         self.running[key] = future, shard
         future.add_done_callback(self.ended.put)
 
+    def _try_waiting(self) -> None:
+        """Hands unfit shards over again: to other workers at once, and to the same ones if no other came meanwhile.
+
+        A scheduler's workers come one by one, and the first of them must not use up the tries of all shards.
+        """
+        waiting, self.waiting = self.waiting, []
+        for shard in waiting:
+            if set(self._workers()) - shard.unfit or time.monotonic() > shard.waits_until:
+                self._submit(shard)
+            else:
+                self.waiting.append(shard)
+
     def _free(self) -> None:
         """Hands shards over again that wait for workers which are all gone."""
         for key, (future, shard) in list(self.running.items()):
@@ -217,7 +234,8 @@ class Runner:
             if answer is None:
                 self.suspects.append(shard)
             elif answer.status == UNFIT and shard.tries <= self.retries:
-                self._submit(shard)
+                shard.waits_until = time.monotonic() + PAUSE
+                self.waiting.append(shard)
             else:
                 yield shard.job, settled(answer)
 

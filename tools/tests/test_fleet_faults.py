@@ -3,11 +3,12 @@
 import os
 import re
 import subprocess
+import time
 import unittest
 from collections.abc import Sequence
 from unittest import mock
 
-from fleet_case import POLICY, FleetCase
+from fleet_case import PATIENCE, POLICY, FleetCase
 from support import needs_dask
 
 
@@ -87,29 +88,44 @@ class Workers(FleetCase):
 
 @needs_dask
 class Schedulers(FleetCase):
-    """A scheduler of its own, with four workers that are started by hand."""
+    """A scheduler of its own, with workers that are started by hand."""
 
-    def scheduler(self, full: bool = False, words: Sequence[str] = ()) -> None:
-        """Starts a scheduler and four workers; the first has a disk that takes no large file."""
+    def scheduler(self, full: bool = False, workers: int = 4, words: Sequence[str] = ()) -> None:
+        """Starts a scheduler and some workers; the disk of the first takes no large file if it is full."""
         place = ("--host", "127.0.0.1", "--port", "0", "--dashboard-address", "127.0.0.1:0")
         self.running = self.process("dask-scheduler", *place, "--scheduler-file", "at.json", *words)
         self.wait_until(lambda: self.address_in("at.json") != "")
         self.address = self.address_in("at.json")
-        for number in range(4):
-            limit = "ulimit -f 8; " if full and number == 0 else ""
-            words = f"--no-nanny --nthreads 1 --no-dashboard --local-directory w{number}"
-            self.process("bash", "-c", f"{limit}exec dask-worker {self.address} {words}")
+        for number in range(workers):
+            self.worker(number, "ulimit -f 8; " if full and number == 0 else "")
+        self.wait_until(lambda: all(os.path.isdir(self.path(f"w{number}")) for number in range(workers)))
 
     def address_in(self, name: str) -> str:
         """Returns the scheduler's address, empty until the file is there and has it."""
         found = re.search(r'"address": "([^"]*)"', self.read(name)) if os.path.exists(self.path(name)) else None
         return found[1] if found else ""
 
+    def worker(self, number: int, limit: str = "") -> None:
+        """Starts a worker, below a limit of the shell."""
+        words = f"--no-nanny --nthreads 1 --no-dashboard --local-directory w{number}"
+        self.process("bash", "-c", f"{limit}exec dask-worker {self.address} {words}")
+
     def test_a_disk_that_is_full(self) -> None:
         self.hosts(24)
         self.write("fleet/users.csv", "user,uid,groups\nroot,0,root:0\n" + "# a long file\n" * 1000)
         self.scheduler(full=True)
         self.fleet("--scheduler", self.address)
+        self.want_as_one_machine()
+
+    def test_a_worker_that_comes_after_one_whose_disk_is_full(self) -> None:
+        self.hosts(6)
+        self.write("fleet/users.csv", "user,uid,groups\nroot,0,root:0\n" + "# a long file\n" * 1000)
+        self.scheduler(full=True, workers=1)
+        running = self.start("--scheduler", self.address, "--retries", "9")
+        time.sleep(1)
+        self.worker(1)
+        out, _ = running.communicate(timeout=PATIENCE)
+        self.assertEqual(running.returncode, 0, out)
         self.want_as_one_machine()
 
     def test_a_scheduler_that_goes_away(self) -> None:
