@@ -1,5 +1,5 @@
 -- The rows for a target decide, and rows that agree say the same.
-use Rattle.std.proofs.Common.{◌≡◌, ℕ, Bool, true, false, not, cond, ◌&&◌, ◌||◌, ◌⊎◌, inl, inr, List, [], ◌∷◌, ◌++◌}
+use Rattle.std.proofs.Common.{◌≡◌, ℕ, Bool, true, false, cond, ◌&&◌, ◌||◌, ◌⊎◌, inl, inr, List, [], ◌∷◌, ◌++◌}
 use Rattle.std.proofs.Common.{map, Option, Some, None, refl, sym, ◌∙◌, ap}
 use Rattle.std.specs.Prelude.{filter, option_map}
 use Rattle.std.specs.Option.{option_or}
@@ -137,7 +137,7 @@ answered_same old new q same c x = ap said (rows-decide old q c x) ∙ same all_
 
 -- ---- Rows that agree
 
-said-answered : (place : Place) (a : Option Tags) → said (answered_by place a) ≡ Some a
+pub said-answered : (place : Place) (a : Option Tags) → said (answered_by place a) ≡ Some a
 said-answered place None = refl
 said-answered place (Some t) = refl
 
@@ -197,11 +197,3 @@ agreeing-among ds es e met c x =
 
 pub agreeing_rows : AgreeingRowsSaySame
 agreeing_rows old new q e = agreeing-among (deciders old q) (deciders new q) e
-
--- rows that no pair of rows tells apart say the same
-pub same-where-none : (ds es : List Decider) (b : Bool) → b ≡ not (rows_agree ds es) → b ≡ false → RowsSaySame ds es
-same-where-none ds es b is none = agreeing-among ds es (turned (rows_agree ds es) (sym is ∙ none))
-  where
-    turned : (a : Bool) → not a ≡ false → a ≡ true
-    turned true e = refl
-    turned false e = cc

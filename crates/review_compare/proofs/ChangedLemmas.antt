@@ -13,14 +13,14 @@ use Rattle.sudo_verdict.specs.Last.{last_that}
 use Rattle.sudo_verdict.proofs.Lasts.{last_that-append}
 use Rattle.review_compare.specs.declared.ruling.Ruled.{Ruled}
 use Rattle.review_compare.specs.Agreement.{Ruling}
-use Rattle.review_compare.specs.Cells.{Decider, answered_if_any, lined_of, rows_agree, ruling_by, verdict_among}
+use Rattle.review_compare.specs.Cells.{Decider, answered_if_any, lined_of, ruling_by, verdict_among}
 use Rattle.review_compare.specs.Compared.{said}
 use Rattle.review_compare.specs.Lines.{Choice, Lined, fits_where, is_met}
 use Rattle.review_compare.specs.Simply.{disjoint_simply}
 use Rattle.review_compare.specs.Witnesses.{RowsSaySame}
 use Rattle.review_compare.specs.Body.ChangedRows.{AreChanged, between, is_fitted, is_near}
 use Rattle.review_compare.specs.Body.Shown.{all_shown, ruling_of}
-use Rattle.review_compare.proofs.CellLemmas.{said-among, same-where-none}
+use Rattle.review_compare.proofs.CellLemmas.{said-among}
 use Rattle.review_compare.proofs.SimplyLemmas.{disjoint_simply_sound}
 use Rattle.review_roots.proofs.ListSteps.{map-twice}
 
@@ -180,14 +180,12 @@ are-changed old new changed front back within also first last is near_old near_n
         met c x (sym (ap (λ (ds : List Decider). is_fitted ds c x) all) ∙ e)
         ∙ sym (ap (λ (ds : List Decider). said (verdict_among met ds c x)) (shown-parts new front back also))
 
--- ---- Near rows that agree
+-- ---- Near rows that say the same
 
-pub near-same : (ds es changed near_ds near_es : List Decider) (b : Bool) → AreChanged ds es changed near_ds near_es →
-    b ≡ not (rows_agree near_ds near_es) → b ≡ false → RowsSaySame ds es
-near-same ds es changed near_ds near_es b changes tested none met c x = by (is_fitted changed c x) refl
+pub near-same : (ds es changed near_ds near_es : List Decider) → AreChanged ds es changed near_ds near_es →
+    RowsSaySame near_ds near_es → RowsSaySame ds es
+near-same ds es changed near_ds near_es changes same met c x = by (is_fitted changed c x) refl
   where
     by : (f : Bool) → is_fitted changed c x ≡ f → said (verdict_among met ds c x) ≡ said (verdict_among met es c x)
     by false e = changes.others met c x e
-    by true e =
-        sym (ap said (changes.old met c x e)) ∙ same-where-none near_ds near_es b tested none met c x
-        ∙ ap said (changes.new met c x e)
+    by true e = sym (ap said (changes.old met c x e)) ∙ same met c x ∙ ap said (changes.new met c x e)

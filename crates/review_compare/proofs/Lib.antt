@@ -5,6 +5,8 @@ pub mod SimplyLemmas
 pub mod ApartLemmas
 pub mod CellLemmas
 pub mod RulingLemmas
+pub mod ReachLemmas
+pub mod OverlapLemmas
 pub mod WitnessLemmas
 pub mod BlockLemmas
 pub mod ChosenLemmas

@@ -1,7 +1,7 @@
 -- Rows that are open among those near a change are open among all.
 use Rattle.std.proofs.Common.{◌≡◌, ◌<◌, ◌≤◌, ◌+◌, ◌⊎◌, inl, inr, ℕ, zero, suc, Bool, true, false, not, cond, ◌||◌, List, [], ◌∷◌}
 use Rattle.std.proofs.Common.{◌++◌, map, Option, Some, None, refl, sym, ◌∙◌, ap, arith, drop, get_or, length, subst, take}
-use Rattle.std.specs.Prelude.{◌-◌, IfSome, option_map, slice_get}
+use Rattle.std.specs.Prelude.{IfSome, option_map, slice_get}
 use Rattle.std.specs.List.{Contains, list_any}
 use Rattle.std.proofs.lemmas.Bool.{and_parts, or_cases, or_left, or_right}
 use Rattle.std.proofs.lemmas.List.{length-map, map-append, take-append-drop}
@@ -26,7 +26,7 @@ use Rattle.review_compare.specs.Body.Near.{near_of}
 use Rattle.review_compare.specs.Body.Shown.{AreOpen, IsBeside, IsLeft, IsRow, IsUnlike, IsUnlikeIf, StandFor, Stands, all_shown}
 use Rattle.review_compare.specs.Body.Shown.{is_covered_by, is_covered_by_either, may_of, pair_agrees, shown, shown_if}
 use Rattle.review_compare.proofs.ApartLemmas.{disjoint-covered, refuted}
-use Rattle.review_compare.proofs.ChangedLemmas.{behind, or-parts}
+use Rattle.review_compare.proofs.ChangedLemmas.{or-parts}
 use Rattle.review_compare.proofs.RulingLemmas.{covered, drop-at}
 
 -- ---- Rows that cover a near one are near
@@ -339,27 +339,25 @@ may-all k f o same is =
 -- ---- A row at an index
 
 pub left-at : (rows others : List Ruled) (i : ℕ) (r : Ruled) (b : Bool) → i < length others → r ≡ get_or others i r →
-    b ≡ is_covered_by_either (all_shown rows) (all_shown (take (length others - (i + 1)) (drop (i + 1) others))) (lined_of (shown r)) →
-    b ≡ false → IsLeft (all_shown rows) (all_shown others) (shown r)
+    b ≡ is_covered_by_either (all_shown rows) (all_shown (drop (i + 1) others)) (lined_of (shown r)) → b ≡ false →
+    IsLeft (all_shown rows) (all_shown others) (shown r)
 left-at rows others i r b within is tested none = record {
   behind = all_shown (drop (i + 1) others);
   way = way-at others i r within is;
-  left = ap (λ (ks : List Ruled). is_covered_by_either (all_shown rows) (all_shown ks) (lined_of (shown r))) (sym (behind others (i + 1)))
-      ∙ sym tested ∙ none;
+  left = sym tested ∙ none;
 }
 
 pub unlike-at : (d : Decider) (later : List Decider) (others : List Ruled) (i : ℕ) (r : Ruled) (b : Bool) → i < length others →
-    r ≡ get_or others i r → b ≡ pair_agrees d later (shown r) (all_shown (take (length others - (i + 1)) (drop (i + 1) others))) →
-    b ≡ false → IsUnlike d later (all_shown others) (shown r)
+    r ≡ get_or others i r → b ≡ pair_agrees d later (shown r) (all_shown (drop (i + 1) others)) → b ≡ false →
+    IsUnlike d later (all_shown others) (shown r)
 unlike-at d later others i r b within is tested none = record {
   behind = all_shown (drop (i + 1) others);
   way = way-at others i r within is;
-  unlike = ap (λ (ks : List Ruled). pair_agrees d later (shown r) (all_shown ks)) (sym (behind others (i + 1))) ∙ sym tested ∙ none;
+  unlike = sym tested ∙ none;
 }
 
 pub open-at : (old new : List Ruled) (i : ℕ) (r : Ruled) (o : Option Ruled) → i < length old → r ≡ get_or old i r →
-    IsUnlikeIf (shown r) (all_shown (take (length old - (i + 1)) (drop (i + 1) old))) (all_shown new) (shown_if o) →
+    IsUnlikeIf (shown r) (all_shown (drop (i + 1) old)) (all_shown new) (shown_if o) →
     IsOpen (all_shown old) (all_shown new) (Some (shown r)) (shown_if o)
 open-at old new i r o within is unlike =
-    open-unlike (all_shown old) (all_shown (drop (i + 1) old)) (all_shown new) (shown r) (shown_if o) (way-at old i r within is)
-    (subst (λ (ks : List Ruled). IsUnlikeIf (shown r) (all_shown ks) (all_shown new) (shown_if o)) (behind old (i + 1)) unlike)
+    open-unlike (all_shown old) (all_shown (drop (i + 1) old)) (all_shown new) (shown r) (shown_if o) (way-at old i r within is) unlike

@@ -17,3 +17,4 @@ pub mod Whoever
 pub mod SharedAsks
 pub mod HostMarks
 pub mod Trials
+pub mod Reaches

@@ -24,8 +24,8 @@ pub(crate) struct Changed<'r, 'a> {
         ≡ filter (body.is_near (all_shown rows.items)) (all_shown all_new.now) },
 }
 
-// Returns how many rows at the front are the same.
-fn same_front(old: &[Ruled<'_>], new: &[Ruled<'_>]) -> usize
+/// Returns how many rows at the front are the same.
+pub(crate) fn same_front(old: &[Ruled<'_>], new: &[Ruled<'_>]) -> usize
     ensures within { (result ≤ length old.now) × (result ≤ length new.now) }
     ensures same { map ruling_of (take result old.now) ≡ map ruling_of (take result new.now) }
 {
@@ -38,8 +38,8 @@ fn same_front(old: &[Ruled<'_>], new: &[Ruled<'_>]) -> usize
     most
 }
 
-// Returns how many rows at the back are the same.
-fn same_back(old: &[Ruled<'_>], new: &[Ruled<'_>]) -> usize
+/// Returns how many rows at the back are the same.
+pub(crate) fn same_back(old: &[Ruled<'_>], new: &[Ruled<'_>]) -> usize
     ensures within { (result ≤ length old.now) × (result ≤ length new.now) }
     ensures same { map ruling_of (drop (length old.now - result) old.now)
         ≡ map ruling_of (drop (length new.now - result) new.now) }

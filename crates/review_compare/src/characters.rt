@@ -60,7 +60,8 @@ fn stars(chars: &[Ch]) -> usize
     count
 }
 
-fn has_few_stars(chars: &[Ch]) -> bool
+/// Whether the pattern has few enough stars to be tried as a cover.
+pub(crate) fn has_few_stars(chars: &[Ch]) -> bool
     ensures { result ≡ simply.has_few_stars chars.now }
 {
     stars(chars) <= MOST_STARS
@@ -111,9 +112,9 @@ fn star_covers(slash: Slash, rest: &[Ch], others: &[Ch]) -> bool
     parts_cover(slash, rest, left)
 }
 
-// Whether the first characters fit each text that the others fit.
+/// Whether the first characters fit each text that the others fit.
 #[cycle(covering)]
-fn parts_cover(slash: Slash, first: &[Ch], others: &[Ch]) -> bool
+pub(crate) fn parts_cover(slash: Slash, first: &[Ch], others: &[Ch]) -> bool
     ensures { result
         ≡ covering.parts_cover slash (map char_part first.now) (map char_part others.now) }
 {

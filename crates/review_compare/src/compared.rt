@@ -7,7 +7,8 @@ ghost use Rattle.review_compare.specs.Witnesses as witnesses;
 use crate::alike::{are_same_atoms, is_same_atom};
 use crate::answer::is_same_answer;
 use crate::changed::Changed;
-use crate::ruling::{Overlap, Ruled, first_overlap, is_unnoted};
+use crate::overlap::first_overlap;
+use crate::ruling::{Overlap, Ruled, is_unnoted};
 use crate::text::atom_copied;
 use crate::trials::{Trial, witnesses};
 use crate::witness::Witness;
@@ -244,9 +245,19 @@ fn compared_changed(alloc: Global, changed: &Changed<'_, '_>) -> Result<Compared
     if changed.new.len() > MOST_ROWS {
         return many_may(alloc, changed);
     }
-    match first_overlap(&changed.old, &changed.new) {
+    match first_overlap(alloc, &changed.old, &changed.new)? {
         None => Ok(Compared::Same),
         Some(overlap) => open_may(alloc, changed, overlap),
+    }
+}
+
+// Compares rows by tests on pairs of them.
+fn compared_all(alloc: Global, old: &[Ruled<'_>], new: &[Ruled<'_>]) -> Result<Compared, AllocError>
+    ensures { IfOk result (witnesses.IsCompared (body.all_shown old.now) (body.all_shown new.now)) }
+{
+    match first_overlap(alloc, old, new)? {
+        None => Ok(Compared::Same),
+        Some(overlap) => may(alloc, with_noted(overlap, old, new)),
     }
 }
 
@@ -258,6 +269,9 @@ fn compared_pairs(
 ) -> Result<Compared, AllocError>
     ensures { IfOk result (witnesses.IsCompared (body.all_shown old.now) (body.all_shown new.now)) }
 {
+    if old.len() <= MOST_ROWS && new.len() <= MOST_ROWS {
+        return compared_all(alloc, old, new);
+    }
     let changed = Changed::between(alloc, old, new)?;
     compared_changed(alloc, &changed)
 }

@@ -1,12 +1,14 @@
 //! Commands of a policy beside others: whether one fits whatever the other fits, and whether nothing fits both.
-ghost use Rattle.std.specs.Prelude.{◌≡◌, ◌||◌, [], map, option_map, Some, IfOk, IsTrue};
+ghost use Rattle.std.specs.Prelude.{◌≡◌, ◌&&◌, ◌||◌, [], map, option_map, Some, IfOk, IsTrue};
 ghost use Rattle.sudo_match.specs.Matching as matching;
 ghost use Rattle.sudo_match.specs.Pattern as pattern;
 ghost use Rattle.review_compare.specs.Covering as covering;
 ghost use Rattle.review_compare.specs.Simply as simply;
 ghost use Rattle.review_compare.specs.Simply.{arguments_of, char_part, chars_text, path_of};
 
-use crate::characters::{chars_cover, is_plain, is_simple, parts_apart, same_chars};
+use crate::characters::{
+    chars_cover, has_few_stars, is_plain, is_simple, parts_apart, parts_cover, same_chars,
+};
 use std::alloc::{AllocError, Global};
 use sudo_grammar::Atom;
 use sudo_match::{Pattern, Slash};
@@ -18,10 +20,15 @@ pub(crate) struct Shape {
     pub(crate) atom: Atom,
     // The characters of its path, with those that a folder's path stands for.
     path: Vec<Ch>,
+    // Whether the path is read character by character, and whether it is tried as a cover.
+    is_simple: bool,
+    is_cover: bool,
     // The one path that it fits, and its one text of arguments, where the parts are single bytes.
     path_text: Option<Vec<u8>>,
     arguments_text: Option<Vec<u8>>,
     ghost path_is: { path.items ≡ path_of atom },
+    ghost simple_is: { is_simple ≡ simply.is_simple path.items },
+    ghost cover_is: { is_cover ≡ (simply.is_simple path.items && simply.has_few_stars path.items) },
     ghost path_text_is: { option_map (λ v. v.items) path_text ≡ chars_text path.items },
     ghost arguments_text_is: { option_map (λ v. v.items) arguments_text
         ≡ chars_text (arguments_of atom) },
@@ -247,19 +254,22 @@ fn misses(slash: Slash, chars: &[Ch], text: &Option<Vec<u8>>) -> bool
     }
 }
 
-// Whether no text fits both patterns, as far as it is seen; with the one text of each, if there is one.
+// Whether no text fits both patterns, as far as it is seen; with the one text of each, if there is one, and whether both are
+// read character by character.
 fn chars_disjoint(
     slashes: (Slash, Slash),
     first: &[Ch],
     second: &[Ch],
     first_text: &Option<Vec<u8>>,
     second_text: &Option<Vec<u8>>,
+    are_simple: bool,
 ) -> bool
     requires first { option_map (λ v. v.items) first_text.now ≡ chars_text first.now }
     requires second { option_map (λ v. v.items) second_text.now ≡ chars_text second.now }
+    requires simple { are_simple ≡ (simply.is_simple first.now && simply.is_simple second.now) }
     ensures { result ≡ simply.chars_disjoint slashes.0 slashes.1 first.now second.now }
 {
-    if !is_simple(first) || !is_simple(second) {
+    if !are_simple {
         return false;
     }
     misses(slashes.1, second, first_text)
@@ -295,6 +305,7 @@ fn given_disjoint(
                     others,
                     &first.arguments_text,
                     &second.arguments_text,
+                    is_simple(own) && is_simple(others),
                 )
             }
         }
@@ -308,11 +319,15 @@ impl Shape {
         ensures { IfOk result (λ shape. shape.atom ≡ atom) }
     {
         let path = path_of(alloc, &atom)?;
+        let is_simple = is_simple(&path);
+        let is_cover = is_simple && has_few_stars(&path);
         let path_text = single_text(alloc, &path)?;
         let arguments_text = arguments_text(alloc, &atom)?;
         Ok(Shape {
             atom,
             path,
+            is_simple,
+            is_cover,
             path_text,
             arguments_text,
         })
@@ -323,6 +338,14 @@ impl Shape {
         ensures { result.now ≡ path_of self.now.atom }
     {
         &self.path
+    }
+
+    // Whether the path fits each path that the other's fits, as far as it is seen.
+    fn covers_path(&self, other: &Shape) -> bool
+        ensures { result ≡ simply.chars_cover Slash.Not (path_of self.now.atom)
+            (path_of other.now.atom) }
+    {
+        self.is_cover && other.is_simple && parts_cover(Slash::Not, &self.path, &other.path)
     }
 
     /// Whether the command fits whatever the other fits, as far as it is seen.
@@ -340,7 +363,7 @@ impl Shape {
             ) => {
                 let (own, its) = (path.as_slice(), other_path.as_slice());
                 (same_chars(own, its) && are_same_arguments(args, others))
-                    || (chars_cover(Slash::Not, &self.path, &other.path)
+                    || (self.covers_path(other)
                         && given_cover(arguments_slash(own), arguments_slash(its), args, others))
             }
             _ => false,
@@ -367,6 +390,7 @@ impl Shape {
                     &other.path,
                     &self.path_text,
                     &other.path_text,
+                    self.is_simple && other.is_simple,
                 ) || given_disjoint(slashes, self, other, args, others)
             }
             _ => false,

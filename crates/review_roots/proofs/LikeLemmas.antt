@@ -2,6 +2,7 @@
 use Rattle.std.proofs.Common.{◌<◌, ◌+◌, ◌⊎◌, ◌∷◌, ◌++◌, [], zero, suc, cond, drop, get_or, inl, inr, length, map, take}
 use Rattle.std.proofs.Common.{◌≡◌, ◌∙◌, ◌==◌, ℕ, Bool, true, false, List, ap, arith, flat_map, refl, subst, sym, Option, Some, None}
 use Rattle.std.specs.Prelude.{All, bytes_eq, option_map, slice_get}
+use Rattle.std.specs.List.{list_any}
 use Rattle.std.specs.Bool.{Decides}
 use mathlib.Core.Bool.{beq}
 use Rattle.std.specs.Cmp.Lexicographic.{pointwise}
@@ -11,8 +12,10 @@ use Rattle.std.proofs.lemmas.List.Elements.{All-contains, Contains-get_or}
 use Rattle.sudo_match.specs.declared.people.Person.{Person}
 use Rattle.sudo_verdict.specs.RunasForms.{is_same_user}
 use Rattle.review_roots.specs.declared.candidate.Candidate.{Candidate}
+use Rattle.review_roots.specs.declared.given.Counted.{Counted}
 use Rattle.review_roots.specs.declared.host.HostSteps.{HostSteps}
 use Rattle.review_roots.specs.declared.layer.Aimed.{Aimed}
+use Rattle.review_roots.specs.declared.level.Level.{Level}
 use Rattle.review_roots.specs.declared.search.Aim.{Aim}
 use Rattle.review_roots.specs.declared.state.State.{State}
 use Rattle.review_roots.specs.declared.toward.Toward.{Toward}
@@ -23,12 +26,13 @@ use Rattle.review_roots.specs.Body.Found.{AreLike, HasLike, IsAimed, IsCandidate
 use Rattle.review_roots.specs.Body.Found.{first_of, found_by, reaches}
 use Rattle.review_roots.specs.Body.Towards.{IsToward}
 use Rattle.review_roots.specs.Ranks.{is_at_least}
-use Rattle.review_roots.specs.States.{group_at, level_for, with_added}
+use Rattle.review_roots.specs.States.{group_at, level_for, step_given, with_added}
 use Rattle.review_roots.specs.Ways.{step_on}
 use Rattle.review_roots.proofs.AlikeLemmas.{name-kept}
 use Rattle.review_roots.proofs.ListSteps.{drop-next}
 use Rattle.review_roots.proofs.LoopLemmas.{there}
-use Rattle.review_roots.proofs.TowardLemmas.{foreign-given, step-from, step-none}
+use Rattle.review_roots.proofs.TowardLemmas.{foreign-barred, foreign-given, step-from, step-none}
+use Rattle.review_roots.proofs.WeakLemmas.{weak-level, weak-nothing}
 use Rattle.review_roots.proofs.LayerLemmas.{get-append-split}
 use Rattle.review_roots.proofs.SearchLemmas.{at-contains, contains-at, get-append}
 use Rattle.review_roots.proofs.UserLemmas.{before, one-row}
@@ -58,6 +62,24 @@ module _ (h : HostSteps) (c : Candidate) (is : IsCandidate h c) where
         where
           itself : (i : ℕ) → (i == i) ≡ true
           itself i = grind arith
+
+  -- where no block that raises allows it, the step to another user has not the least level
+  pub barred :
+      (t : Toward) → IsToward h.checked.now h.directory.now h.groups.now h.blocks.now t.state t →
+      (c.state.user == t.state.user) ≡ false → list_any (both_at h.on.items t.allowed.items) c.strong.items ≡ false →
+      (k : Counted) (l : Level) → is_at_least h.least l ≡ true →
+      is_at_least l (level_for k (step_given h.checked.now h.directory.now h.host.now h.groups.now c.state t.state)) ≡ false
+  barred t toward apart none k l above = go (slice_get h.directory.now.people t.state.user) refl
+    where
+      go : (o : Option Person) → slice_get h.directory.now.people t.state.user ≡ o →
+          is_at_least l (level_for k (step_given h.checked.now h.directory.now h.host.now h.groups.now c.state t.state)) ≡ false
+      go None at =
+          ap (λ a. is_at_least l (level_for k a)) (sym (step-none h t.state c is at))
+          ∙ weak-level h.least nothing h.listed (weak-nothing h.least h.listed) k l above
+      go (Some v) at =
+          ap (λ a. is_at_least l (level_for k a)) (sym (step-from h t.state c v is at))
+          ∙ foreign-barred h c v (group_at h.groups.now t.state.added) t.allowed.items is (other-name t.state.user v at apart)
+          (toward.allowed v at) none k l above
 
   -- what the step to a state gives that is another user's
   by-allowed : (s : State) (t : Toward) (v : Person) → IsTowardOf h s t → slice_get h.directory.now.people s.user ≡ Some v →

@@ -368,16 +368,7 @@ impl<'r, 'a> HostSteps<'r, 'a> {
             self.now.checked.now self.now.directory.now self.now.host.now self.now.groups.now
             candidate.now.state toward.now.state)) ≡ false }
     {
-        match self.user_at(toward.state) {
-            Some(target) => {
-                if is_same_user(target, &candidate.person) {
-                    false
-                } else {
-                    !self.may_reach(candidate, toward)
-                }
-            }
-            None => false,
-        }
+        candidate.state.user != toward.state.user && !self.may_reach(candidate, toward)
     }
 
     // Returns what the step of a candidate to a state gives, found by its runas.

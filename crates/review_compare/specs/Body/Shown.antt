@@ -1,5 +1,5 @@
 -- What contracts see of the rows that the program holds, and their agreement pair by pair; only proofs of bodies use these.
-use Rattle.std.specs.Prelude.{◌≡◌, Bool, true, false, ◌&&◌, ◌||◌, List, [], ◌∷◌, map, option_map, Option, Some, None}
+use Rattle.std.specs.Prelude.{◌≡◌, Bool, false, ◌||◌, List, map, option_map, Option, Some, None}
 use Rattle.std.specs.List.{Contains, list_any}
 use Rattle.review_compare.specs.declared.compared.Compared.{Compared}
 use Rattle.review_compare.specs.declared.compared.Compared.TheVariants as compared
@@ -38,27 +38,6 @@ abbrev pub pair_agrees : Decider → List Decider → Decider → List Decider �
 pair_agrees d later e more =
     same_answer d.answer e.answer
     || ((is_covered_by_either later more (lined_of d) || is_covered_by_either later more (lined_of e)) || disjoint_simply d.atom e.atom)
-
--- where none of these answers, none of the others does
-abbrev pub none_agrees : List Decider → List Decider → Bool
-none_agrees ds [] = true
-none_agrees ds (e ∷ es) = is_covered_by_either ds es (lined_of e) && none_agrees ds es
-
--- a row, with those after it, agrees with each of the others
-abbrev pub each_agrees : Decider → List Decider → List Decider → Bool
-each_agrees d later [] = true
-each_agrees d later (e ∷ es) = pair_agrees d later e es && each_agrees d later es
-
--- and where it answers, one of the others does
-abbrev pub one_agrees : Decider → List Decider → List Decider → Bool
-one_agrees d later es = is_covered_by_either later es (lined_of d) && each_agrees d later es
-
-abbrev pub all_agree : List Decider → List Decider → Bool
-all_agree [] es = true
-all_agree (d ∷ ds) es = one_agrees d ds es && all_agree ds es
-
-abbrev pub pairs_agree : List Decider → List Decider → Bool
-pairs_agree ds es = none_agrees ds es && all_agree ds es
 
 abbrev pub IsShownWitness : List Ruled → List Ruled → Witness → Type 0
 IsShownWitness rs ss w = IsWitness (all_shown rs) (all_shown ss) w
