@@ -27,7 +27,11 @@ _UNKNOWN = 2
 _OWN_DOMAIN = "/proc/sys/kernel/domainname"
 
 _BINDING = re.compile(rb"(?:Defaults[@>:]?)?")
-_TOKEN = re.compile(rb'"((?:[^"\\]|\\.)*)"?|([=,:()])|((?:[^ \t=,:()!"\\]|\\.)+)', re.DOTALL)
+# A word that begins with `%:`, the mark of a non-Unix group, is one with it.
+_TOKEN = re.compile(rb'"((?:[^"\\]|\\.)*)"?|([=,:()])|((?:%:)?(?:[^ \t=,:()!"\\]|\\.)+)', re.DOTALL)
+# The part of a word without quotes that is a name; a non-Unix group may be `%:#` and an ID.
+_NAME = re.compile(rb"(?:%:#?)?[^#]*")
+NON_UNIX = "%:"
 _COMMENT = re.compile(rb"#(?![0-9-])")
 _NO_NAME = re.compile(rb"[\x00-\x1f\x7f\\]")
 _TRIPLE = re.compile(r"\(([^,\n]*),([^,\n]*),([^)\n]*)\) ?")
@@ -47,7 +51,10 @@ class Triple(NamedTuple):
 
 
 def named_in(main: str) -> list[str]:
-    """Returns the netgroups that a policy of this machine may name, with its included files, in their order."""
+    """Returns the netgroups that a policy of this machine may name, with its included files, in their order.
+
+    The non-Unix groups among them begin with `%:`.
+    """
     found: dict[bytes, None] = {}
     for lines in files_of(main).values():
         for line in lines:
@@ -57,7 +64,10 @@ def named_in(main: str) -> list[str]:
 
 
 def _named_by(text: bytes) -> Iterator[bytes]:
-    """Yields the netgroups that a line may name: its words that begin with a plus sign, but for arguments of a command."""
+    """Yields the netgroups that a line may name: its words that begin with a plus sign, but for arguments of a command.
+
+    So are its non-Unix groups, the words that begin with `%:`.
+    """
     is_command = False
     binding = _BINDING.match(text)
     for quoted, mark, word in _TOKEN.findall(text, binding.end() if binding else 0):
@@ -66,21 +76,35 @@ def _named_by(text: bytes) -> Iterator[bytes]:
         if is_command and mark in (b"", b"(", b")"):
             continue
         is_command = word.startswith(b"/")
-        name = quoted or word.partition(b"#")[0]
-        if name.startswith(b"+") and len(name) > 1 and not _NO_NAME.search(name):
-            yield name[1:]
+        name = quoted or cast("re.Match[bytes]", _NAME.match(word)).group()
+        mark = b"+" if name.startswith(b"+") else NON_UNIX.encode()
+        if name.startswith(mark) and len(name) > len(mark) and not _NO_NAME.search(name):
+            yield name.removeprefix(b"+")
 
 
 def of_this_machine(names: Iterable[str]) -> list[Triple]:
-    """Returns the triples of netgroups on this machine that sudo looks at here, one of nobody for a netgroup without any."""
+    """Returns the triples of netgroups on this machine that sudo looks at here, one of nobody for a netgroup without any.
+
+    Only a plugin of sudo knows non-Unix groups: a warning names each of them, and none has a triple.
+    """
     domain = own_domain()
     found: list[Triple] = []
     for name in names:
+        if _is_non_unix(name):
+            continue
         triples = known(name)
         if triples is None:
             warn(f"netgroup {name}: this machine knows no such netgroup; it is written as one of nobody, as for sudo")
         found += _stated(name, triples or [], domain)
     return found
+
+
+def _is_non_unix(name: str) -> bool:
+    """Returns whether a name is that of a non-Unix group, with a warning: a row of nobody for it would hide its users."""
+    if not name.startswith(NON_UNIX):
+        return False
+    warn(f"non-Unix group {name}: only a plugin of sudo knows it; it is not written, and sudo_review refuses it without a row")
+    return True
 
 
 def collected(folder: str, below: str) -> list[Triple] | None:
@@ -96,7 +120,8 @@ def collected(folder: str, below: str) -> list[Triple] | None:
         triples = triples_of(name, line + "\n") if name else None
         if triples is None:
             raise Fault(f"{path}:{number}: not a line of getent netgroup")
-        found += _stated(name, triples, domain)
+        if not _is_non_unix(name):
+            found += _stated(name, triples, domain)
     return found
 
 

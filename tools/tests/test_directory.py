@@ -375,6 +375,17 @@ class Netgroups(Case):
         self.assertIn(f"directory: warning: {said}\n", err)
         self.assertTrue(os.path.exists(self.path("out", "users.csv")))
 
+    def test_non_unix_groups_are_named_and_not_written(self) -> None:
+        self.write("sudoers", 'Defaults:%:ops !lecture\n"%:two words", +-s, "+%:odd" ALL = (%:#5) ALL\n@include more\n')
+        self.write("more", "User_Alias A = !%:x, %:ops\n%adm ALL = /bin/date +%:s\n")
+        _, err = self.run_tool("directory", "out", "--netgroups", "sudoers")
+        self.assertEqual(self.rows("out", "netgroups.csv"), ["netgroup,host,user,domain", "-s,-,joe,"])
+        self.assertEqual(self.rows("asked"), ["netgroup -- -s"])
+        for name in ("%:ops", "%:two words", "%:odd", "%:#5", "%:x"):
+            said = "only a plugin of sudo knows it; it is not written, and sudo_review refuses it without a row"
+            self.assertEqual(err.count(f"directory: warning: non-Unix group {name}: {said}\n"), 1, err)
+        self.assertEqual(err.count("non-Unix"), 5)
+
     def test_a_policy_without_netgroups(self) -> None:
         self.write("sudoers", "alice ALL = /bin/date +%s\n")
         self.run_tool("directory", "out", "--netgroups", "sudoers")
@@ -440,11 +451,13 @@ class Netgroups(Case):
         self.write(f"{folder}/domain", f"{domain}\n")
 
     def test_those_of_copied_files(self) -> None:
-        self.copied("all/web1", "ops                   ( ,alice,) (web1,bob,d.org)\ntwo words\nnone                 \n", "x.org")
+        netgroup = "ops                   ( ,alice,) (web1,bob,d.org)\ntwo words\n%:odd\nnone                 \n"
+        self.copied("all/web1", netgroup, "x.org")
         _, err = self.run_tool("directory", "--from", "all/web1", "out")
         rows = ["netgroup,host,user,domain", "ops,,alice,", "two words,-,-,", "none,-,-,"]
         self.assertEqual(self.rows("out", "netgroups.csv"), rows)
         self.assertIn("netgroup ops: 1 of 2 triples are left out, since they are of another domain than x.org\n", err)
+        self.assertIn("non-Unix group %:odd: only a plugin of sudo knows it", err)
         os.unlink(self.path("all", "web1", "domain"))
         self.run_tool("directory", "--from", "all/web1", "out")
         self.assertEqual(self.rows("out", "netgroups.csv")[2], "ops,web1,bob,d.org")
@@ -484,6 +497,10 @@ class Netgroups(Case):
     def test_netgroups_that_a_policy_names(self) -> None:
         for text, names in (
             ("+a ALL = ALL", "a"),
+            ("%:a ALL = ALL", "%:a"),
+            ("%:a,!%:b, ! +c %:#5x = (%:d : adm) %:e", "%:a %:b c %:#5x %:d %:e"),
+            ("%:a#x ALL = ALL : % :b = ALL\n%: a ALL = ALL\na%:b ALL = ALL", "%:a"),
+            ("Defaults:%:a lecture", "%:a"),
             ("+a,!+b, ! +c ALL = ALL", "a b c"),
             ("alice +a, !+b = (+c, !+d : adm) /bin/ls : +e = (+f) NOPASSWD: ALL", "a b c d e f"),
             ("alice \\\n  +a \\\n  = ALL", "a"),

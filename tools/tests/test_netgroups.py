@@ -1,4 +1,4 @@
-"""Tests of netgroups on policies drawn at random, each beside the same policy with the members written by hand."""
+"""Tests of netgroups and non-Unix groups on policies drawn at random, each beside the same with the members written by hand."""
 
 import random
 import re
@@ -19,8 +19,9 @@ COMMANDS = ("/opt/a", "/opt/b", "/opt/c")
 # What fields of triples have: any, none, who is known, and names that look like something else.
 TRIPLE_USERS = ("", "-", "-", *USERS, "zoe", "ALL", "%adm", "A1", "!bob", "bob,carol", "(x)", 'q"q', "b\\s", "x=y")
 TRIPLE_HOSTS = ("", "-", "-", *HOSTS, "WEB1", "web2", "mail", "none.such", "ALL", "A1", "Web2.Example.Org")
-NETGROUPS = ("ng1", "ng2", "ng3", "NG4", "n-g.5", "two words", "none")
-UNKNOWN = ("gone", "ng", "NG1", "ng11")
+NON_UNIX = "%:"
+NETGROUPS = ("ng1", "ng2", "ng3", "NG4", "n-g.5", "two words", "%:ng1", "%:NG4", "%:two words", "none")
+UNKNOWN = ("gone", "ng", "NG1", "ng11", "%:ng2")
 NOBODY = {"user": "\\x00", "runas": "\\x00", "host": "no-such-host"}
 # What is put into lines with a netgroup of one user and one host of the same name, which is longer than that of the netgroup.
 PIECES = (
@@ -34,7 +35,7 @@ ALIASES = {"user": "A1", "runas": "R1", "host": "H1"}
 
 
 class Member(NamedTuple):
-    """A member of a list: its sign, whether it is a netgroup, and its name or, of no netgroup, its text."""
+    """A member of a list: its sign, whether it is a netgroup or a non-Unix group, and its name or, if it is none, its text."""
 
     sign: str
     is_netgroup: bool
@@ -98,6 +99,8 @@ class Drawn:
             names = sorted({triple[0] for triple in self.triples})
             if self.has_unknown and self.random.random() < 0.2:
                 names = list(UNKNOWN)
+            if kind == "host":
+                names = [name for name in names if not name.startswith(NON_UNIX)]
             return Member(sign, True, self.random.choice(names))
         words = ["ALL", *(written(kind, name) for name in (HOSTS if kind == "host" else USERS))]
         return Member(sign, False, self.random.choice(words + ([ALIASES[kind]] if kind in self.aliases else [])))
@@ -149,7 +152,8 @@ class Drawn:
             if not member.is_netgroup:
                 return [member.sign + member.word]
             is_quoted = " " in member.word or self.random.random() < 0.3
-            return [f'{member.sign}"+{member.word}"' if is_quoted else f"{member.sign}+{member.word}"]
+            word = member.word if member.word.startswith(NON_UNIX) else f"+{member.word}"
+            return [f'{member.sign}"{word}"' if is_quoted else member.sign + word]
 
         return self.text(shown)
 
@@ -161,32 +165,38 @@ class Drawn:
 
         return self.text(shown)
 
-    def first_unknown(self) -> int:
-        """Returns the physical line of the first entry that has an unknown netgroup, 0 if none has."""
+    def first_unknown(self) -> tuple[int, set[str]]:
+        """Returns the line of the first entry that has an unknown netgroup, 0 if none has, and what it may be refused for."""
         known, at = {triple[0] for triple in self.triples}, 1
         for line in self.lines:
             members = [member for part in line if isinstance(part, Listed) for member in part.members]
-            if any(member.is_netgroup and member.word not in known for member in members):
-                return at
+            groups = [member.word for member in members if member.is_netgroup]
+            if any(name not in known for name in groups):
+                return at, {"non-Unix group" if name.startswith(NON_UNIX) else "netgroup" for name in groups}
             at += sum(self.part(part, lambda kind, member: ["x"]).count("\n") for part in line) + 1
-        return 0
+        return 0, set()
 
 
-def torn_line(draw: random.Random) -> str:
-    """Returns a line with netgroups into which up to two pieces are put anywhere."""
+def torn_line(draw: random.Random, mark: str) -> str:
+    """Returns a line with groups of a mark, but no non-Unix group among hosts, into which up to two pieces are put anywhere."""
+    spelled = (f'"{mark}ng1"', f"{mark}ng1", f'!"{mark}ng1"', f"!{mark}ng1")
+    of_hosts = spelled if mark != NON_UNIX else ()
+    pieces = [piece for piece in PIECES if mark != NON_UNIX or piece != '"+ng1"']
 
-    def drawn() -> str:
-        members = ('"+ng1"', "+ng1", '!"+ng1"', "!+ng1", "alice", "ALL", ONLY)
+    def drawn(groups: Sequence[str] = spelled) -> str:
+        members = (*groups, "alice", "ALL", ONLY)
         return draw.choice((",", ", ", " ,")).join(draw.choice(members) for _ in range(draw.randint(1, 2)))
 
     parts = draw.choice((
-        [drawn(), " ", drawn(), " = ", "(", drawn(), ") ", "/opt/a"],
-        [drawn(), " ", drawn(), " = ", "/opt/a"],
-        ["Defaults", draw.choice(":@>"), drawn(), " ", "!lecture"],
-        [draw.choice(("User", "Host", "Runas")), "_Alias ", "A1", " = ", drawn()],
+        [drawn(), " ", drawn(of_hosts), " = ", "(", drawn(), ") ", "/opt/a"],
+        [drawn(), " ", drawn(of_hosts), " = ", "/opt/a"],
+        ["Defaults", draw.choice(":>"), drawn(), " ", "!lecture"],
+        ["Defaults@", drawn(of_hosts), " ", "!lecture"],
+        [draw.choice(("User", "Runas")), "_Alias ", "A1", " = ", drawn()],
+        ["Host_Alias ", "A1", " = ", drawn(of_hosts)],
     ))
     for _ in range(draw.randint(0, 2)):
-        parts.insert(draw.randrange(len(parts) + 1), draw.choice(PIECES))
+        parts.insert(draw.randrange(len(parts) + 1), draw.choice(pieces).replace("+ng1", f"{mark}ng1"))
     return "".join(parts) + "\n"
 
 
@@ -226,13 +236,13 @@ class Netgroups(Case):
             drawn = Drawn(f"netgroups.{number}")
             self.write_requests(random.Random(number))
             self.write("n", "".join(map(row, [("netgroup", "host", "user", "domain"), *drawn.triples])))
-            text, unknown = drawn.with_netgroups(), drawn.first_unknown()
+            text, (unknown, forms) = drawn.with_netgroups(), drawn.first_unknown()
             self.write("p", text)
             with self.subTest(text=text, triples=drawn.triples):
                 if unknown:
                     refused += 1
-                    said = (1, "", f"sudo_review: p:{unknown}: unsupported netgroup\n")
-                    self.assertEqual(self.ran("check", "p", "--netgroups", "n"), said)
+                    said = [(1, "", f"sudo_review: p:{unknown}: unsupported {form}\n") for form in forms]
+                    self.assertIn(self.ran("check", "p", "--netgroups", "n"), said)
                     continue
                 found = self.answers("--netgroups", "n")
                 self.write("p", drawn.with_members())
@@ -245,22 +255,30 @@ class Netgroups(Case):
         self.assertGreater(allowed, POLICIES // 2)
 
     def test_a_line_is_read_as_that_with_a_name_in_its_place(self) -> None:
-        self.write("n", f"netgroup,host,user,domain\nng1,{ONLY},{ONLY},\n")
+        self.write("n", f"netgroup,host,user,domain\nng1,{ONLY},{ONLY},\n%:ng1,{ONLY},{ONLY},\n")
         self.write("users", f"user,uid,gid,group\nroot,0,0,root\nalice,1000,4,adm\n{ONLY},1001,100,own\n")
         self.write("hosts", f"host,interfaces\n{ONLY},\ndb1,\n")
+        for mark, least in (("+", LINES // 10), (NON_UNIX, LINES // 20)):
+            with self.subTest(mark):
+                self.assertGreater(self.lines_read(mark), least)
+
+    def lines_read(self, mark: str) -> int:
+        """Returns how many lines with groups of a mark are read, each as that with a name in their place."""
         words, read = ("p", "--users", "users", "--hosts", "hosts"), 0
+        name = f"{mark}ng1"
         for number in range(LINES):
-            text = torn_line(random.Random(f"line.{number}"))
-            if not re.search(r'(?<![^ \t,!=(:"@>\n])\+ng1', text) or re.search(r'[^ \t,!=(:"@>\n]\+ng1', text):
+            text = torn_line(random.Random(f"line.{number}"), mark)
+            begins = rf'[^ \t,!=(:"@>\n]){re.escape(name)}'
+            if not re.search(f"(?<!{begins}", text) or re.search(f"({begins}", text):
                 continue
             self.write("p", text)
             status, found, _ = self.ran("grants", *words, "--netgroups", "n")
             if status == 0:
                 read += 1
-                self.write("p", text.replace("+ng1", ONLY))
+                self.write("p", text.replace(name, ONLY))
                 with self.subTest(text=text):
-                    self.assertEqual((0, found.replace("+ng1", ONLY)), self.ran("grants", *words)[:2])
-        self.assertGreater(read, LINES // 10)
+                    self.assertEqual((0, found.replace(name, ONLY)), self.ran("grants", *words)[:2])
+        return read
 
 
 if __name__ == "__main__":

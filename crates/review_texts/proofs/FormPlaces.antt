@@ -16,7 +16,9 @@ use Rattle.sudo_grammar.specs.declared.fault.Unsupported.TheVariants as forms
 use Rattle.audit_files.specs.declared.netgroups.Triple.{Triple}
 use Rattle.review_texts.specs.declared.mask.Mask.{Mask}
 use Rattle.review_texts.specs.declared.readable.Readable.{Readable}
-use Rattle.review_texts.specs.Netgroups.{ends_name, is_known, netgroup_at, plus_at, spells_netgroup}
+use Rattle.review_texts.specs.declared.netgroups.Group.{Group}
+use Rattle.review_texts.specs.declared.netgroups.Group.TheVariants.{Net, NonUnix}
+use Rattle.review_texts.specs.Netgroups.{ends_name, group_at, is_known, is_marked, is_named, mark_at, spells_group}
 use Rattle.review_texts.specs.Digests.{digest_size, digest_start, digest_at, digest_stop, is_digest}
 use Rattle.review_texts.specs.Digests.{may_follow as digest_may_follow, spells_digest}
 use Rattle.review_texts.specs.Expressions.{caret_of, dollar_of, expression_at, holds_expression, is_expression, is_file_at}
@@ -76,16 +78,27 @@ past_end [] (suc at) none = refl
 past_end (b ∷ text) zero none = cc
 past_end (b ∷ text) (suc at) none = past_end text at none
 
-no_netgroup : (known : List Triple) (text : List ℕ) (at : ℕ) → drop at text ≡ [] → spells_netgroup known text at ≡ true → ⊥
-unfolding spells_netgroup
-no_netgroup known text at none spelled =
-    let first = and_parts ((slice_index text (plus_at text at) == 43) && ends_name text at) (is_known known (netgroup_at text at))
-    spelled in
-    let second = and_parts (slice_index text (plus_at text at) == 43) (ends_name text at) first.0 in
+no_mark : (group : Group) (text : List ℕ) (at : ℕ) → drop at text ≡ [] → is_marked group text (mark_at text at) ≡ true → ⊥
+no_mark Net text at none marked =
     let here : (slice_index text at == 43) ≡ true = subst
-    (λ (b : ℕ). (slice_index text (if b == 34 then at + 1 else at) == 43) ≡ true) (past_end text at none) second.0 in
+    (λ (b : ℕ). (slice_index text (if b == 34 then at + 1 else at) == 43) ≡ true) (past_end text at none) marked in
     let empty : (0 == 43) ≡ true = subst (λ (b : ℕ). (b == 43) ≡ true) (past_end text at none) here in
     true≢false (sym empty)
+no_mark NonUnix text at none marked =
+    let percent = and_parts (slice_index text (mark_at text at) == 37) (slice_index text (mark_at text at + 1) == 58) marked in
+    let here : (slice_index text at == 37) ≡ true = subst
+    (λ (b : ℕ). (slice_index text (if b == 34 then at + 1 else at) == 37) ≡ true) (past_end text at none) percent.0 in
+    let empty : (0 == 37) ≡ true = subst (λ (b : ℕ). (b == 37) ≡ true) (past_end text at none) here in
+    true≢false (sym empty)
+
+no_group : (group : Group) (known : List Triple) (text : List ℕ) (at : ℕ) → drop at text ≡ [] → spells_group group known text at ≡ true
+    → ⊥
+unfolding spells_group
+no_group group known text at none spelled =
+    let first = and_parts (is_marked group text (mark_at text at) && ends_name group text at)
+    (is_named group text at && is_known known (group_at group text at)) spelled in
+    let second = and_parts (is_marked group text (mark_at text at)) (ends_name group text at) first.0 in
+    no_mark group text at none second.0
 
 no_expression : (text : List ℕ) (at : ℕ) → drop at text ≡ [] → spells_expression text at ≡ true → ⊥
 unfolding spells_expression
@@ -108,7 +121,9 @@ no_stand : (r : Readable) (line : Line) (form : Unsupported) (start end : ℕ) (
 no_stand r line forms.CommandOption start end put none stands = no_option r.noted line.text start none stands.0.spelled
 no_stand r line forms.List start end put none stands = no_list line.text start none stands.0.spelled
 no_stand r line forms.Digest start end put none stands = no_digest line.text start none stands.1.spelled
-no_stand r line forms.Netgroup start end put none stands = no_netgroup r.netgroups.items line.text start none stands.0.spelled
+no_stand r line forms.Netgroup start end put none stands = no_group Net r.netgroups.items line.text start none stands.0.spelled
+no_stand r line forms.NonUnixGroup start end put none stands =
+    no_group NonUnix r.netgroups.items line.text start none stands.0.spelled
 no_stand r line forms.RegularExpression start end put none stands = no_expression line.text start none stands.1.spelled
 no_stand r line _ start end put none stands = stands
 

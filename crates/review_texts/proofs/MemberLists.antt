@@ -3,6 +3,7 @@ use Rattle.std.proofs.Common.{◌≡◌, ℕ, List, ◌∷◌, Option, None, Som
 use Rattle.std.specs.Prelude.{filter_map, fold}
 use Rattle.audit_files.specs.declared.netgroups.Triple.{Triple}
 use Rattle.sudo_text.specs.declared.line.Line.{Line}
+use Rattle.review_texts.specs.declared.netgroups.Group.{Group}
 use Rattle.review_texts.specs.declared.netgroups.Members.{Members}
 use Rattle.review_texts.specs.declared.netgroups.Members.TheVariants.{Users, Hosts}
 use Rattle.review_texts.specs.Places.{IsListOf, IsMembers, list_at}
@@ -22,14 +23,15 @@ one_more sign kind name list t ts = by (member_of kind name t) refl
     by None e = rw e refl
     by (Some member) e = rw e refl
 
--- A netgroup at an offset has one list.
-one_kind : (line : Line) (at : ℕ) (a b : Members) → IsListOf a line at → IsListOf b line at → a ≡ b
-one_kind line at Users Users is other = refl
-one_kind line at Users Hosts is other = absurd (other.0 is)
-one_kind line at Hosts Users is other = absurd (is.0 other)
-one_kind line at Hosts Hosts is other = refl
+-- A group at an offset has one list.
+one_kind : (group : Group) (line : Line) (at : ℕ) (a b : Members) → IsListOf a group line at → IsListOf b group line at → a ≡ b
+one_kind group line at Users Users is other = refl
+one_kind group line at Users Hosts is other = absurd (other.1 is)
+one_kind group line at Hosts Users is other = absurd (is.1 other)
+one_kind group line at Hosts Hosts is other = refl
 
-pub one_members : (known : List Triple) (line : Line) (at : ℕ) (a b : List ℕ) → IsMembers known line at a → IsMembers known line at b
-    → a ≡ b
-one_members known line at a b is other =
-    is.is ∙ ap (λ kind. list_at kind known line.text at) (one_kind line at is.kind other.kind is.list other.list) ∙ sym other.is
+pub one_members : (group : Group) (known : List Triple) (line : Line) (at : ℕ) (a b : List ℕ) → IsMembers group known line at a
+    → IsMembers group known line at b → a ≡ b
+one_members group known line at a b is other =
+    is.is ∙ ap (λ kind. list_at group kind known line.text at) (one_kind group line at is.kind other.kind is.list other.list)
+    ∙ sym other.is

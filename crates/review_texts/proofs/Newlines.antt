@@ -160,6 +160,7 @@ count_put r line forms.Digest start end put stands =
     ap newline_count stands.3 ∙ count_note Digest (filter (λ b. not (b == 61)) digest) (count_kept (λ b. not (b == 61)) digest
     (count_front is_base64 (drop (digest_start line.text start) line.text) refl))
 count_put r line forms.Netgroup start end put stands = stands.0.one_line
+count_put r line forms.NonUnixGroup start end put stands = stands.0.one_line
 count_put r line forms.RegularExpression start end put stands = ap newline_count stands.3 ∙ count_expression line.text start
 count_put r line _ start end put stands = absurd stands
 

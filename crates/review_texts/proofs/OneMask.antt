@@ -9,6 +9,7 @@ use Rattle.sudo_grammar.specs.declared.fault.Unsupported.{Unsupported}
 use Rattle.sudo_grammar.specs.declared.fault.Unsupported.TheVariants as forms
 use Rattle.review_texts.specs.declared.readable.Readable.{Readable}
 use Rattle.review_texts.specs.declared.mask.Mask.{Mask}
+use Rattle.review_texts.specs.declared.netgroups.Group.TheVariants.{Net, NonUnix}
 use Rattle.review_texts.proofs.MemberLists.{one_members}
 use Rattle.review_texts.specs.Masks.{Stands, behind, IsMask, IsBehind, IsMasked, most_masks}
 use Rattle.review_texts.specs.MaskedTexts.{written, IsBlock, IsBlockBy, IsPlainBlock, AreBlocks, IsTextBy, IsMaskedBy, IsMaskedText}
@@ -24,7 +25,9 @@ one_standing r line forms.List start end stop put other (stands, is, text) (agai
 one_standing r line forms.Digest start end stop put other (on, stands, is, text) (too, again, same, written) =
     (is ∙ sym same, text ∙ sym written)
 one_standing r line forms.Netgroup start end stop put other (stands, is) (again, same) =
-    (is ∙ sym same, one_members r.netgroups.items line start put other stands.members again.members)
+    (is ∙ sym same, one_members Net r.netgroups.items line start put other stands.members again.members)
+one_standing r line forms.NonUnixGroup start end stop put other (stands, is) (again, same) =
+    (is ∙ sym same, one_members NonUnix r.netgroups.items line start put other stands.members again.members)
 one_standing r line forms.RegularExpression start end stop put other (on, stands, is, text) (too, again, same, written) =
     (is ∙ sym same, text ∙ sym written)
 one_standing r line _ start end stop put other stands again = absurd stands

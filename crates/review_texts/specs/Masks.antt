@@ -19,9 +19,11 @@ use Rattle.review_texts.specs.Notes.{note_path}
 use Rattle.review_texts.specs.Options.{name_at, option_end, value_at, value_of}
 use Rattle.review_texts.specs.Digests.{digest_at, digest_end, digest_start}
 use Rattle.review_texts.specs.Expressions.{command_at, dollar_of, expression_at, hex_of}
-use Rattle.review_texts.specs.Netgroups.{netgroup_end}
+use Rattle.review_texts.specs.Netgroups.{group_end}
+use Rattle.review_texts.specs.declared.netgroups.Group.{Group}
+use Rattle.review_texts.specs.declared.netgroups.Group.TheVariants.{Net, NonUnix}
 use Rattle.review_texts.specs.Places.{IsRefusedFor, with_text, no_path}
-use Rattle.review_texts.specs.Places.{StandsOption, StandsList, StandsDigest, StandsExpression, StandsNetgroup}
+use Rattle.review_texts.specs.Places.{StandsOption, StandsList, StandsDigest, StandsExpression, StandsGroup}
 
 -- the note of an option
 abbrev pub option_note : List ℕ → Option Note
@@ -59,15 +61,21 @@ digest_text text at = note_text Digest (filter (λ b. not (b == 61)) (digest_at 
 abbrev pub expression_text : List ℕ → ℕ → List ℕ
 expression_text text at = note_text Regex (hex_of (expression_at text at)) ++ command_at text at
 
+-- a group stands from an offset up to another, and these are its members
+abbrev pub StandsAs : Group → Readable → Line → ℕ → ℕ → List ℕ → Type 0
+StandsAs group r line start end put =
+    StandsGroup group r.netgroups.items line start put × (end ≡ group_end group line.text start)
+
 -- a form stands from an offset up to another, and this stands in its place: a note for a digest and for some options, a note and
--- a command for a regular expression, a path that no command has for `list`, and the members of a netgroup
+-- a command for a regular expression, a path that no command has for `list`, and the members of a netgroup or a non-Unix group
 abbrev pub Stands : Readable → Line → Unsupported → ℕ → ℕ → List ℕ → Type 0
 Stands r line forms.CommandOption start end put =
     StandsOption r.noted line start × (end ≡ suc (option_end line.text start)) × (put ≡ option_text line.text start)
 Stands r line forms.List start end put = StandsList line start × (end ≡ start + 4) × (put ≡ no_path)
 Stands r line forms.Digest start end put =
     (r.noted ≡ true) × StandsDigest line start × (end ≡ digest_end line.text start) × (put ≡ digest_text line.text start)
-Stands r line forms.Netgroup start end put = StandsNetgroup r.netgroups.items line start put × (end ≡ netgroup_end line.text start)
+Stands r line forms.Netgroup start end put = StandsAs Net r line start end put
+Stands r line forms.NonUnixGroup start end put = StandsAs NonUnix r line start end put
 Stands r line forms.RegularExpression start end put =
     (r.noted ≡ true) × StandsExpression line start × (end ≡ dollar_of line.text start + 1) × (put ≡ expression_text line.text start)
 Stands r line _ start end put = ⊥

@@ -22,7 +22,9 @@ use Rattle.review_texts.specs.Options.{name_end, spells_option}
 use Rattle.review_texts.specs.Digests.{spells_digest}
 use Rattle.review_texts.specs.Expressions.{dollar_of, holds_expression}
 use Rattle.review_texts.specs.Words.{newline_count}
-use Rattle.review_texts.specs.Netgroups.{list_for, netgroup_at, sign_at, spells_netgroup}
+use Rattle.review_texts.specs.Netgroups.{group_at, list_for, sign_at, spells_group}
+use Rattle.review_texts.specs.declared.netgroups.Group.{Group}
+use Rattle.review_texts.specs.declared.netgroups.Group.TheVariants.{Net, NonUnix}
 use Rattle.review_texts.specs.declared.netgroups.Members.{Members}
 use Rattle.review_texts.specs.declared.netgroups.Members.TheVariants.{Users, Hosts}
 use Rattle.audit_files.specs.declared.netgroups.Triple.{Triple}
@@ -134,7 +136,7 @@ pub record StandsExpression (line : Line) (at : ℕ) : Type 0 where
   pub read : IsEntryIn (with_text line (with_path line.text at)) entry
   pub first : is_first_at at (last_command entry) ≡ true
 
--- ---- Netgroups
+-- ---- Netgroups and non-Unix groups
 
 -- the line up to an offset, with this there
 abbrev pub line_with : Line → ℕ → List ℕ → Line
@@ -163,25 +165,30 @@ pub record TakesGroup (line : Line) (at : ℕ) : Type 0 where
   pub read : IsEntryIn (line_with line at (codes "x) ALL")) entry
   pub grouped : has_groups (last_spec entry) ≡ true
 
--- the list for the netgroup at an offset
-abbrev pub list_at : Members → List Triple → List ℕ → ℕ → List ℕ
-list_at kind known text at = list_for kind known (sign_at (take at text)) (netgroup_at text at)
+-- the list for the group at an offset
+abbrev pub list_at : Group → Members → List Triple → List ℕ → ℕ → List ℕ
+list_at group kind known text at = list_for kind known (sign_at (take at text)) (group_at group text at)
 
--- a list of such members goes on at an offset
-abbrev pub IsListOf : Members → Line → ℕ → Type 0
-IsListOf Users line at = TakesUser line at
-IsListOf Hosts line at = (TakesUser line at → ⊥) × TakesHost line at
+-- a list of hosts may have such a group
+abbrev pub has_hosts : Group → Bool
+has_hosts Net = true
+has_hosts NonUnix = false
 
--- what stands in place of a netgroup at an offset
-pub record IsMembers (known : List Triple) (line : Line) (at : ℕ) (put : List ℕ) : Type 0 where
+-- a list of such members goes on at an offset, and may have such a group
+abbrev pub IsListOf : Members → Group → Line → ℕ → Type 0
+IsListOf Users group line at = TakesUser line at
+IsListOf Hosts group line at = (has_hosts group ≡ true) × (TakesUser line at → ⊥) × TakesHost line at
+
+-- what stands in place of a group at an offset
+pub record IsMembers (group : Group) (known : List Triple) (line : Line) (at : ℕ) (put : List ℕ) : Type 0 where
   pub kind : Members
-  pub list : IsListOf kind line at
-  pub is : put ≡ list_at kind known line.text at
+  pub list : IsListOf kind group line at
+  pub is : put ≡ list_at group kind known line.text at
 
--- A known netgroup stands at an offset, and these are its members: it is spelled there, in a list of users or hosts, and not
--- in the list of groups of a runas, where sudo takes none. The members stand on one line.
-pub record StandsNetgroup (known : List Triple) (line : Line) (at : ℕ) (put : List ℕ) : Type 0 where
-  pub spelled : spells_netgroup known line.text at ≡ true
+-- A known group stands at an offset, and these are its members: it is spelled there, in a list of users, or of hosts if it is a
+-- netgroup, and not in the list of groups of a runas, where sudo takes none. The members stand on one line.
+pub record StandsGroup (group : Group) (known : List Triple) (line : Line) (at : ℕ) (put : List ℕ) : Type 0 where
+  pub spelled : spells_group group known line.text at ≡ true
   pub ungrouped : TakesGroup line at → ⊥
-  pub members : IsMembers known line at put
+  pub members : IsMembers group known line at put
   pub one_line : newline_count put ≡ 0

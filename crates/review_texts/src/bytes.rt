@@ -1,5 +1,5 @@
 //! Bytes of lines.
-ghost use Rattle.std.specs.Prelude.{◌≡◌, ◌==◌, ◌≤◌, ◌+◌, max, length, slice_index, drop};
+ghost use Rattle.std.specs.Prelude.{◌≡◌, ◌==◌, ◌≤◌, ◌+◌, max, length, slice_index, drop, take};
 ghost use Rattle.std.specs.List.{list_any, take_while};
 ghost use Rattle.std.specs.Str.{bytes_eq};
 ghost use Rattle.sudo_text.specs.Bytes as spec;
@@ -54,6 +54,14 @@ pub(crate) fn from(text: &[u8], at: usize) -> &[u8]
     ensures { result.now ≡ drop at text.now }
 {
     if at < text.len() { &text[at..] } else { &[] }
+}
+
+/// Returns so many bytes that begin a text, or all of fewer.
+#[tactic(auto, using(crate::proofs::Fronts::take_shorter))]
+pub(crate) fn front(text: &[u8], len: usize) -> &[u8]
+    ensures { result.now ≡ take len text.now }
+{
+    if len < text.len() { &text[..len] } else { text }
 }
 
 /// Returns the number of blanks that begin a text.

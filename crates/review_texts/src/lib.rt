@@ -26,7 +26,7 @@ pub use laws::{
 };
 pub use mask::Mask;
 pub use masks::{as_written, mask_line, mask_of};
-pub use netgroups::Members;
+pub use netgroups::{Group, Members};
 pub use note::{Note, note_in};
 pub use readable::Readable;
 pub use texts::mask_text;

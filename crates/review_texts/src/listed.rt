@@ -1,4 +1,4 @@
-//! Where a netgroup stands, and in which list.
+//! Where a netgroup or a non-Unix group stands, and in which list.
 ghost use Rattle.std.specs.Prelude.{◌≡◌, ℕ, ◌≤◌, ◌+◌, ◌++◌, List, Decides, IfOk, MatchOption, IsTrue, length, take, true};
 ghost use Rattle.std.specs.Option.{option_copied};
 ghost use Rattle.sudo_grammar.specs.declared.policy.EntryBody.{EntryBody as AnEntry};
@@ -6,7 +6,7 @@ ghost use Rattle.review_texts.specs.declared.netgroups.Members.{Members as TheMe
 ghost use Rattle.review_texts.specs.Places as spec;
 
 use crate::bytes::newline_count;
-use crate::netgroups::{Members, list_for, netgroup_at, sign_at, spells_netgroup};
+use crate::netgroups::{Group, Members, group_at, list_for, sign_at, spells_group};
 use crate::places::{last_spec, with_text};
 use crate::reading::{entry_in, is_bad_number};
 use audit_files::Triple;
@@ -83,46 +83,63 @@ fn takes_group(alloc: Global, line: &Line, at: usize) -> Result<bool, AllocError
     reads_groups(alloc, &front)
 }
 
-// Returns the list for the netgroup at an offset.
+// Returns the list for the group at an offset.
 fn list_at(
     alloc: Global,
+    group: Group,
     kind: Members,
     known: &[Triple],
     text: &[u8],
     at: usize,
 ) -> Result<Seq<u8>, AllocError>
     requires { at ≤ length text.now }
-    ensures { IfOk result (λ list. list ≡ spec.list_at kind known.now text.now at) }
+    ensures { IfOk result (λ list. list ≡ spec.list_at group kind known.now text.now at) }
 {
     list_for(
         alloc,
         kind,
         known,
         sign_at(&text[..at]),
-        netgroup_at(text, at),
+        group_at(group, text, at),
     )
 }
 
-// Returns the kind of the members of the list that goes on at an offset, if one of users or hosts does.
-fn kind_at(alloc: Global, line: &Line, at: usize) -> Result<Option<Members>, AllocError>
+// Whether a list of hosts may have such a group.
+fn has_hosts(group: Group) -> bool
+    ensures { result ≡ spec.has_hosts group }
+{
+    match group {
+        Group::Net => true,
+        Group::NonUnix => false,
+    }
+}
+
+// Returns the kind of the members of the list that goes on at an offset, if one of users or hosts does that may have such a group.
+fn kind_at(
+    alloc: Global,
+    group: Group,
+    line: &Line,
+    at: usize,
+) -> Result<Option<Members>, AllocError>
     requires within { at ≤ length line.now.text }
     requires short { length line.now.text + 16 ≤ TEXT_LIMIT }
     ensures { IfOk result (λ found. MatchOption found
-        ((kind : TheMembers) → spec.IsListOf kind line.now at → ⊥)
-        (λ kind. spec.IsListOf kind line.now at)) }
+        ((kind : TheMembers) → spec.IsListOf kind group line.now at → ⊥)
+        (λ kind. spec.IsListOf kind group line.now at)) }
 {
     if takes_user(alloc, line, at)? {
         return Ok(Some(Members::Users));
     }
-    if takes_host(alloc, line, at)? {
+    if has_hosts(group) && takes_host(alloc, line, at)? {
         return Ok(Some(Members::Hosts));
     }
     Ok(None)
 }
 
-// Returns the members of the netgroup at an offset, if a list of users or hosts goes on there.
+// Returns the members of the group at an offset, if a list that may have it goes on there.
 fn members_at(
     alloc: Global,
+    group: Group,
     known: &[Triple],
     line: &Line,
     at: usize,
@@ -130,19 +147,20 @@ fn members_at(
     requires within { at ≤ length line.now.text }
     requires short { length line.now.text + 16 ≤ TEXT_LIMIT }
     ensures { IfOk result (λ found. MatchOption found
-        ((put : List ℕ) → spec.IsMembers known.now line.now at put → ⊥)
-        (λ put. spec.IsMembers known.now line.now at put)) }
+        ((put : List ℕ) → spec.IsMembers group known.now line.now at put → ⊥)
+        (λ put. spec.IsMembers group known.now line.now at put)) }
 {
-    let Some(kind) = kind_at(alloc, line, at)? else {
+    let Some(kind) = kind_at(alloc, group, line, at)? else {
         return Ok(None);
     };
-    let put = list_at(alloc, kind, known, line.text.as_slice(), at)?;
+    let put = list_at(alloc, group, kind, known, line.text.as_slice(), at)?;
     Ok(Some(put))
 }
 
-/// Returns the members of the netgroup at an offset, if one stands there that is known. Returns `AllocError` if allocation fails.
-pub(crate) fn netgroup_members(
+/// Returns the members of the group at an offset, if one stands there that is known. Returns `AllocError` if allocation fails.
+pub(crate) fn group_members(
     alloc: Global,
+    group: Group,
     known: &[Triple],
     line: &Line,
     at: usize,
@@ -150,16 +168,16 @@ pub(crate) fn netgroup_members(
     requires within { at ≤ length line.now.text }
     requires short { length line.now.text + 16 ≤ TEXT_LIMIT }
     ensures { IfOk result (λ found. MatchOption found
-        ((put : List ℕ) → spec.StandsNetgroup known.now line.now at put → ⊥)
-        (λ put. spec.StandsNetgroup known.now line.now at put)) }
+        ((put : List ℕ) → spec.StandsGroup group known.now line.now at put → ⊥)
+        (λ put. spec.StandsGroup group known.now line.now at put)) }
 {
-    if !spells_netgroup(known, line.text.as_slice(), at) {
+    if !spells_group(group, known, line.text.as_slice(), at) {
         return Ok(None);
     }
     if takes_group(alloc, line, at)? {
         return Ok(None);
     }
-    let Some(put) = members_at(alloc, known, line, at)? else {
+    let Some(put) = members_at(alloc, group, known, line, at)? else {
         return Ok(None);
     };
     if newline_count(put.as_slice()) > 0 {

@@ -1,12 +1,13 @@
-//! The members for which a netgroup stands.
+//! The members for which a netgroup or a non-Unix group stands.
 ghost use Rattle.std.specs.Prelude.{◌≡◌, ◌≤◌, ◌<◌, ◌+◌, ◌++◌, IfOk, IsTrue, OnOk, drop, length, max, take};
 ghost use Rattle.std.specs.List.{list_all, list_any, take_while};
 ghost use Rattle.sudo_grammar.specs.Words as words;
+ghost use Rattle.sudo_text.specs.Bytes.{is_digit};
 ghost use Rattle.sudo_parser.specs.Texts.{user_text};
 ghost use Rattle.review_texts.specs.Body.MemberLists.{with_member_if};
 ghost use Rattle.review_texts.specs.Netgroups as spec;
 
-use crate::bytes::{from, is_blank, is_control, is_mark_byte, is_text, peek};
+use crate::bytes::{from, front, is_blank, is_control, is_digit, is_mark_byte, is_text, peek};
 use crate::options::is_name_byte;
 use audit_files::Triple;
 use std::alloc::{AllocError, Global};
@@ -14,7 +15,16 @@ use sudo_grammar::{Atom, Signed};
 use sudo_parser::member_text;
 use sudo_text::Seq;
 
-/// The kind of members for which a netgroup stands.
+/// What a file states members of.
+#[derive(Clone, Copy, Debug, PartialEq, Eq)]
+pub enum Group {
+    /// A netgroup, `+name`.
+    Net,
+    /// A group that only a plugin of sudo knows, `%:name`.
+    NonUnix,
+}
+
+/// The kind of members for which a group stands.
 #[derive(Clone, Copy, Debug, PartialEq, Eq)]
 pub enum Members {
     Users,
@@ -93,7 +103,7 @@ fn member_for(alloc: Global, kind: Members, field: &[u8]) -> Result<Option<Seq<u
     Ok(Some(name_text(alloc, kind, field)?))
 }
 
-// Returns the member that a triple adds to the list of a netgroup, if any.
+// Returns the member that a triple adds to the list of a group, if any.
 fn member_of(
     alloc: Global,
     kind: Members,
@@ -119,7 +129,7 @@ fn push_member(sign: &[u8], member: Seq<u8>, list: &mut Seq<u8>) -> Result<(), A
     list.append(member)
 }
 
-// Appends the member that a triple adds to the list of a netgroup, if any.
+// Appends the member that a triple adds to the list of a group, if any.
 fn push_triple(
     alloc: Global,
     kind: Members,
@@ -137,7 +147,7 @@ fn push_triple(
     }
 }
 
-// Returns the list of the members that triples add to that of a netgroup.
+// Returns the list of the members that triples add to that of a group.
 fn members_of(
     alloc: Global,
     kind: Members,
@@ -156,7 +166,7 @@ fn members_of(
     Ok(list)
 }
 
-// Returns what stands for a netgroup without members.
+// Returns what stands for a group without members.
 fn nobody(kind: Members) -> &'static [u8]
     ensures { result.now ≡ spec.nobody kind }
 {
@@ -166,7 +176,7 @@ fn nobody(kind: Members) -> &'static [u8]
     }
 }
 
-/// Returns the list that stands for a netgroup: its members of a kind, each but the first behind a comma and a sign, or one that
+/// Returns the list that stands for a group: its members of a kind, each but the first behind a comma and a sign, or one that
 /// nobody is. Returns `AllocError` if allocation fails.
 pub(crate) fn list_for(
     alloc: Global,
@@ -184,7 +194,7 @@ pub(crate) fn list_for(
     Ok(list)
 }
 
-// Whether a netgroup is known.
+// Whether a group is known.
 fn is_known(known: &[Triple], name: &[u8]) -> bool
     ensures { result ≡ spec.is_known known.now name.now }
 {
@@ -193,13 +203,35 @@ fn is_known(known: &[Triple], name: &[u8]) -> bool
         .any(|triple| is_text(triple.netgroup.as_slice(), name))
 }
 
-// Returns the offset of the plus sign of a netgroup at an offset.
-fn plus_at(text: &[u8], at: usize) -> usize
+// Returns the offset of the mark of a group at an offset.
+fn mark_at(text: &[u8], at: usize) -> usize
     requires { at ≤ length text.now }
-    ensures plus { result ≡ spec.plus_at text.now at }
+    ensures mark { result ≡ spec.mark_at text.now at }
     ensures near { result ≤ at + 1 }
 {
     if peek(text, at) == b'"' { at + 1 } else { at }
+}
+
+// Returns the length of the mark of a group.
+fn mark_len(group: Group) -> usize
+    ensures len { result ≡ spec.mark_len group }
+    ensures short { result ≤ 2 }
+{
+    match group {
+        Group::Net => 1,
+        Group::NonUnix => 2,
+    }
+}
+
+// Whether the mark of a group stands at an offset.
+fn is_marked(group: Group, text: &[u8], at: usize) -> bool
+    requires { at ≤ length text.now + 1 }
+    ensures { result ≡ spec.is_marked group text.now at }
+{
+    match group {
+        Group::Net => peek(text, at) == b'+',
+        Group::NonUnix => peek(text, at) == b'%' && peek(text, at + 1) == b':',
+    }
 }
 
 // Whether a byte may stand in a name between double quotes.
@@ -216,46 +248,106 @@ fn is_bare_byte(byte: u8) -> bool
     is_quoted_byte(byte) && !(is_blank(byte) || is_mark_byte(byte) || byte == b'#')
 }
 
-// Returns the number of bytes of a name that begin a text.
-fn name_len(text: &[u8], quoted: bool) -> usize
-    ensures len { result ≡ length (take_while (spec.name_byte quoted) text.now) }
+// Whether `#` and a digit begin a text.
+fn is_id(text: &[u8]) -> bool
+    ensures { result ≡ spec.is_id text.now }
+{
+    peek(text, 0) == b'#' && is_digit(peek(text, 1))
+}
+
+// Returns the number of digits that begin a text.
+fn digit_count(text: &[u8]) -> usize
+    ensures count { result ≡ length (take_while is_digit text.now) }
     ensures within { result ≤ length text.now }
 {
-    if quoted {
-        text.iter()
-            .take_while(|byte| is_quoted_byte(**byte))
-            .count()
-    } else {
-        text.iter().take_while(|byte| is_bare_byte(**byte)).count()
+    text.iter().take_while(|byte| is_digit(**byte)).count()
+}
+
+// Returns the number of bytes that begin a text and may stand in a name without double quotes.
+fn bare_count(text: &[u8]) -> usize
+    ensures count { result ≡ length (take_while spec.is_bare_byte text.now) }
+    ensures within { result ≤ length text.now }
+{
+    text.iter().take_while(|byte| is_bare_byte(**byte)).count()
+}
+
+// Returns the number of bytes of a name between double quotes that begins a text.
+fn quoted_count(text: &[u8]) -> usize
+    ensures count { result ≡ length (take_while spec.is_quoted_byte text.now) }
+    ensures within { result ≤ length text.now }
+{
+    text.iter()
+        .take_while(|byte| is_quoted_byte(**byte))
+        .count()
+}
+
+// Returns the number of bytes of a name without double quotes that begins a text.
+fn bare_len(group: Group, text: &[u8]) -> usize
+    ensures len { result ≡ spec.bare_len group text.now }
+    ensures within { result ≤ length text.now + 1 }
+{
+    match group {
+        Group::Net => bare_count(text),
+        Group::NonUnix => {
+            if is_id(text) {
+                1 + digit_count(from(text, 1))
+            } else {
+                bare_count(text)
+            }
+        }
     }
 }
 
-/// Returns the name of the netgroup at an offset.
-#[tactic(auto, using(crate::proofs::Fronts::take_front))]
-pub(crate) fn netgroup_at(text: &[u8], at: usize) -> &[u8]
-    requires { at ≤ length text.now }
-    ensures name { result.now ≡ spec.netgroup_at text.now at }
-    ensures within { at + length result.now ≤ length text.now }
+// Returns the number of bytes of a name that begins a text.
+fn name_len(group: Group, quoted: bool, text: &[u8]) -> usize
+    ensures len { result ≡ spec.name_len group quoted text.now }
+    ensures within { result ≤ length text.now + 1 }
 {
-    let rest = from(text, plus_at(text, at) + 1);
-    &rest[..name_len(rest, peek(text, at) == b'"')]
+    if quoted {
+        quoted_count(text)
+    } else {
+        bare_len(group, text)
+    }
+}
+
+// Returns the length of the name of the group at an offset.
+fn len_at(group: Group, text: &[u8], at: usize) -> usize
+    requires { at ≤ length text.now }
+    ensures len { result ≡ spec.len_at group text.now at }
+    ensures within { result ≤ length text.now + 1 }
+{
+    let rest = from(text, mark_at(text, at) + mark_len(group));
+    name_len(group, peek(text, at) == b'"', rest)
+}
+
+/// Returns the name of the group at an offset, as a file has it.
+pub(crate) fn group_at(group: Group, text: &[u8], at: usize) -> &[u8]
+    requires { at ≤ length text.now }
+    ensures { result.now ≡ spec.group_at group text.now at }
+{
+    let len = len_at(group, text, at);
+    let mark = mark_at(text, at);
+    match group {
+        Group::Net => front(from(text, mark + 1), len),
+        Group::NonUnix => front(from(text, mark), len + 2),
+    }
 }
 
 // Returns the offset behind that name.
-fn netgroup_stop(text: &[u8], at: usize) -> usize
+fn group_stop(group: Group, text: &[u8], at: usize) -> usize
     requires { at ≤ length text.now }
-    ensures stop { result ≡ spec.netgroup_stop text.now at }
-    ensures within { result ≤ length text.now + 2 }
+    ensures stop { result ≡ spec.group_stop group text.now at }
+    ensures within { result ≤ at + length text.now + 4 }
 {
-    plus_at(text, at) + 1 + netgroup_at(text, at).len()
+    mark_at(text, at) + mark_len(group) + len_at(group, text, at)
 }
 
-/// Returns the end of the netgroup at an offset.
-pub(crate) fn netgroup_end(text: &[u8], at: usize) -> usize
+/// Returns the end of the group at an offset.
+pub(crate) fn group_end(group: Group, text: &[u8], at: usize) -> usize
     requires { at ≤ length text.now }
-    ensures { result ≡ spec.netgroup_end text.now at }
+    ensures { result ≡ spec.group_end group text.now at }
 {
-    let stop = netgroup_stop(text, at);
+    let stop = group_stop(group, text, at);
     if peek(text, at) == b'"' {
         stop + 1
     } else {
@@ -273,12 +365,12 @@ fn ends_item(text: &[u8], at: usize) -> bool
         || peek(text, at) == b'#'
 }
 
-// Whether the name of a netgroup at an offset ends, and its item with it.
-fn ends_name(text: &[u8], at: usize) -> bool
+// Whether the name of a group at an offset ends, and its item with it.
+fn ends_name(group: Group, text: &[u8], at: usize) -> bool
     requires { at ≤ length text.now }
-    ensures { result ≡ spec.ends_name text.now at }
+    ensures { result ≡ spec.ends_name group text.now at }
 {
-    let stop = netgroup_stop(text, at);
+    let stop = group_stop(group, text, at);
     if peek(text, at) == b'"' {
         peek(text, stop) == b'"' && ends_item(text, stop + 1)
     } else {
@@ -286,16 +378,27 @@ fn ends_name(text: &[u8], at: usize) -> bool
     }
 }
 
-/// Whether a netgroup that is known is spelled at an offset.
-#[tactic(auto, unfolding(crate::specs::Netgroups::spells_netgroup))]
-pub(crate) fn spells_netgroup(known: &[Triple], text: &[u8], at: usize) -> bool
+// Whether the name of a group at an offset is one of such a group.
+fn is_named(group: Group, text: &[u8], at: usize) -> bool
     requires { at ≤ length text.now }
-    ensures netgroup { result ≡ spec.spells_netgroup known.now text.now at }
-    ensures within { IsTrue result → at + 1 ≤ length text.now }
+    ensures { result ≡ spec.is_named group text.now at }
 {
-    peek(text, plus_at(text, at)) == b'+'
-        && ends_name(text, at)
-        && is_known(known, netgroup_at(text, at))
+    match group {
+        Group::Net => !group_at(group, text, at).starts_with(b"%:"),
+        Group::NonUnix => len_at(group, text, at) > 0,
+    }
+}
+
+/// Whether a group that is known is spelled at an offset.
+#[tactic(auto, unfolding(crate::specs::Netgroups::spells_group))]
+pub(crate) fn spells_group(group: Group, known: &[Triple], text: &[u8], at: usize) -> bool
+    requires { at ≤ length text.now }
+    ensures { result ≡ spec.spells_group group known.now text.now at }
+{
+    is_marked(group, text, mark_at(text, at))
+        && ends_name(group, text, at)
+        && is_named(group, text, at)
+        && is_known(known, group_at(group, text, at))
 }
 
 // Returns the number of exclamation marks and blanks that end a text.

@@ -7,6 +7,6 @@ use audit_files::Triple;
 pub struct Readable {
     /// Whether notes stand for digests, times and roots.
     pub noted: bool,
-    /// The triples of the netgroups whose members are read in their place.
+    /// The triples of the netgroups, and of the non-Unix groups, whose members are read in their place.
     pub netgroups: Vec<Triple>,
 }

@@ -8,8 +8,8 @@ ghost use Rattle.review_texts.specs.Notes.{note_path};
 use crate::bytes::is_text;
 use crate::digests::{digest_at, digest_end, digest_start};
 use crate::expressions::{command_at, dollar_of, expression_at, push_hex};
-use crate::listed::netgroup_members;
-use crate::netgroups::netgroup_end;
+use crate::listed::group_members;
+use crate::netgroups::{Group, group_end};
 use crate::options::{name_at, option_end, value_at, value_of};
 use crate::places::{NO_PATH, digest_stands, expression_stands, list_stands, option_stands};
 use crate::{Note, Readable};
@@ -219,9 +219,10 @@ fn expression_standing(
     Ok(Some(Standing { end, put }))
 }
 
-// The same of a netgroup.
-fn netgroup_standing(
+// The same of a netgroup or a non-Unix group.
+fn group_standing(
     alloc: Global,
+    group: Group,
     readable: &Readable,
     line: &Line,
     at: usize,
@@ -230,13 +231,13 @@ fn netgroup_standing(
     requires short { length line.now.text + 16 ≤ TEXT_LIMIT }
     ensures { IfOk result (λ found. MatchOption found
         ((end : ℕ) (put : List ℕ)
-        → Stands readable.now line.now Unsupported.Netgroup at end put → ⊥)
-        (λ s. Stands readable.now line.now Unsupported.Netgroup at s.end s.put)) }
+        → spec.StandsAs group readable.now line.now at end put → ⊥)
+        (λ s. spec.StandsAs group readable.now line.now at s.end s.put)) }
 {
-    let Some(put) = netgroup_members(alloc, &readable.netgroups, line, at)? else {
+    let Some(put) = group_members(alloc, group, &readable.netgroups, line, at)? else {
         return Ok(None);
     };
-    let end = netgroup_end(line.text.as_slice(), at);
+    let end = group_end(group, line.text.as_slice(), at);
     Ok(Some(Standing { end, put }))
 }
 
@@ -259,7 +260,8 @@ pub(crate) fn stands(
         Unsupported::CommandOption => option_standing(alloc, readable, line, at),
         Unsupported::List => list_standing(alloc, readable, line, at),
         Unsupported::Digest => digest_standing(alloc, readable, line, at),
-        Unsupported::Netgroup => netgroup_standing(alloc, readable, line, at),
+        Unsupported::Netgroup => group_standing(alloc, Group::Net, readable, line, at),
+        Unsupported::NonUnixGroup => group_standing(alloc, Group::NonUnix, readable, line, at),
         Unsupported::RegularExpression => expression_standing(alloc, readable, line, at),
         _ => Ok(None),
     }

@@ -17,6 +17,7 @@ fn begin_word(first: u8, rest: &[u8]) -> bool
         b'N' => peek(rest, 0) == b'O',
         b's' => peek(rest, 0) == b'h',
         b'D' => peek(rest, 0) == b'e',
+        b'%' => peek(rest, 0) == b':',
         b'+' | b'^' => true,
         _ => false,
     }
@@ -46,6 +47,7 @@ fn begins_word(text: &[u8]) -> bool
         || text.starts_with(b"sha384:")
         || text.starts_with(b"sha512:")
         || text.starts_with(b"Defaults\\")
+        || text.starts_with(b"%:")
         || is_plus_or_caret(peek(text, 0))
 }
 

@@ -6,7 +6,8 @@ use std::alloc::{AllocError, Global};
 use std::test::Fail;
 use sudo_text::Seq;
 
-// Returns that notes are read, and three netgroups: of users on hosts, of capital letters, and without members.
+// Returns that notes are read, and three netgroups: of users on hosts, of capital letters, and without members; and two non-Unix
+// groups.
 fn readable(alloc: Global) -> Result<Readable, AllocError> {
     let mut netgroups = Vec::new(alloc);
     for (netgroup, host, user) in [
@@ -15,6 +16,8 @@ fn readable(alloc: Global) -> Result<Readable, AllocError> {
         ("ops", "-", "bob b"),
         ("any", "", ""),
         ("none", "-", "-"),
+        ("%:ops", "-", "carol"),
+        ("%:#5", "", "eve"),
     ] {
         netgroups.push(Triple {
             netgroup: Seq::from_slice(alloc, netgroup.as_bytes())?,
@@ -359,6 +362,38 @@ fn a_netgroup_becomes_its_members(rt: HostRuntime) -> Result<(), Fail> {
         "Cmnd_Alias C = +ops",
         "Defaults env_keep += \"+ops\"",
         "Defaults!+ops lecture",
+    ];
+    assert!(rt; are_kept(rt.alloc(), &texts)?);
+    Ok(())
+}
+
+#[test]
+fn a_non_unix_group_becomes_its_users(rt: HostRuntime) -> Result<(), Fail> {
+    let rows = [
+        ("%:ops ALL = /b\n", "carol ALL = /b\n"),
+        (
+            "!\"%:ops\", %:#5 ALL = (+none, %:#5) /b",
+            "!carol  , eve  ALL = (\\x00 , eve ) /b",
+        ),
+        (
+            "u \"%:ops\" = (%:ops : adm) /b",
+            "u \"%:ops\" = (carol : adm) /b",
+        ),
+        ("Defaults>!%:#5 lecture", "Defaults>!eve  lecture"),
+    ];
+    assert!(rt; are_masked(rt.alloc(), &rows)?);
+    let texts = [
+        "%:unknown ALL = ALL",
+        "%: ALL = ALL",
+        "%:# ALL = ALL",
+        "%:#5x ALL = ALL",
+        "%\\:ops ALL = ALL",
+        "\"%:ops\"x ALL = ALL",
+        "\"+%:ops\" ALL = ALL",
+        "u %:ops = ALL",
+        "u ALL = (root : %:ops) /b",
+        "u ALL = %:ops",
+        "%:#5, \\\n  root ALL = /b",
     ];
     assert!(rt; are_kept(rt.alloc(), &texts)?);
     Ok(())

@@ -1,4 +1,4 @@
-use Rattle.review_texts.proofs.listed.netgroup_members.Goals as goal
+use Rattle.review_texts.proofs.listed.group_members.Goals as goal
 
 pub returns-in_default : goal.returns-in_default
 returns-in_default c =
