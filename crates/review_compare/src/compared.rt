@@ -277,8 +277,8 @@ fn compared_pairs(
 }
 
 /// Compares the rows of two policies for a target: by commands that may be answered otherwise, and then by tests on pairs of
-/// rows. Only rows that may fit a command of a row that differs are looked at; beyond a thousand such rows of one of the
-/// policies nothing is known but by commands. What is noted may be met or not: the command of a witness is decided by rows before
+/// rows of which one differs. Where more than a thousand rows of one of the policies may fit a command of a row that differs,
+/// nothing is known but by commands. What is noted may be met or not: the command of a witness is decided by rows before
 /// which nothing is noted, and other rows cover the same rows alone. Returns `AllocError` if allocation fails.
 pub(crate) fn compared_rows(alloc: Global, trial: &Trial<'_, '_>) -> Result<Compared, AllocError>
     ensures { IfOk result (witnesses.IsCompared (body.all_shown trial.now.old_rows.now)
