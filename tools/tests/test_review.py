@@ -35,6 +35,9 @@ class Tables(TableCase):
     def test_table_compare(self) -> None:
         self.check_table("compare")
 
+    def test_table_expanded(self) -> None:
+        self.check_table("expanded")
+
     def test_table_grants(self) -> None:
         self.check_table("grants")
 

@@ -7,7 +7,9 @@ import unittest
 from support import REQUESTS_HEADER, needs_program
 from tables import AUDIT, REPORT, TABLES, Shown, TableCase, asked, parts
 
-OF_REVIEW = {"cautions", "compare", "grants", "masks", "netgroups", "report", "review", "roots", "rules", "subjects", "who"}
+OF_REVIEW = {
+    *("cautions", "compare", "expanded", "grants", "masks", "netgroups", "report", "review", "roots", "rules", "subjects", "who")
+}
 
 
 @needs_program

@@ -6,7 +6,7 @@ use crate::runs::{
 };
 use audit_commands::expand_run;
 use audit_files::{ReadFault, Script, read_whole};
-use review_commands::Form;
+use review_commands::{Form, expand_run as review_expand_run};
 use run_base::{Files, FilesFault, Obstacle};
 use std::alloc::{AllocError, Global};
 use std::sync::Wait;
@@ -214,6 +214,17 @@ fn expansion(alloc: Global, files: &mut Shelf<'_>, mut out: Script) -> Result<St
     shown(alloc, status, &out, &err)
 }
 
+// Shows the same by the reviewer.
+fn reviewed_expansion(
+    alloc: Global,
+    files: &mut Shelf<'_>,
+    mut out: Script,
+) -> Result<String, AllocError> {
+    let mut err = Script::of(alloc, b"", 1000)?;
+    let status = review_expand_run(alloc, b"p", files, Kind::Cmnd, b"A", &mut out, &mut err);
+    shown(alloc, status, &out, &err)
+}
+
 // Shows a run of the command that the word names, with this writer.
 fn written<T: Threads + Wait + Sync>(
     alloc: Global,
@@ -241,6 +252,7 @@ fn written<T: Threads + Wait + Sync>(
             table_shown(alloc, word, &mut Shelf { items: &FILES }, readers, out)
         }
         "cautions" => cautions_shown(alloc, &mut Shelf { items: &CAPITALS }, out),
+        "reviewed" => reviewed_expansion(alloc, &mut Shelf { items: &NOTED }, out),
         _ => expansion(alloc, &mut Shelf { items: &ALIASES }, out),
     }
 }
@@ -249,6 +261,12 @@ fn written<T: Threads + Wait + Sync>(
 const ALIASES: [Item<'static>; 1] = [Item {
     path: b"p",
     text: b"Cmnd_Alias A = /bin/ls, /bin/cat, !/bin/su\nHost_Alias B = web1\n",
+}];
+
+// An alias with a digest and `list`, as they are read.
+const NOTED: [Item<'static>; 1] = [Item {
+    path: b"p",
+    text: b"Cmnd_Alias A = /d[z-a]sha224, /opt/run, !/list[z-a]\n",
 }];
 
 // A policy with one caution.
@@ -281,6 +299,7 @@ fn whole(word: &str) -> &'static str {
         }
         "rules" => "place,commands,allowed,denied,depends;p:1,4,1,0,;",
         "expand" => "/bin/ls;/bin/cat;!/bin/su;",
+        "reviewed" => "# digest;/opt/run;!list;",
         _ => table_text(word),
     }
 }
@@ -290,7 +309,7 @@ fn whole(word: &str) -> &'static str {
 fn whole_shown(alloc: Global, word: &str) -> Result<String, AllocError> {
     let text = whole(word);
     match word {
-        "audit" | "check" | "expand" => format!(in alloc; "0 {text}"),
+        "audit" | "check" | "expand" | "reviewed" => format!(in alloc; "0 {text}"),
         "cautions" => format!(in alloc; "5 {text}"),
         _ => format!(in alloc; "0 {text}! sudo_review: 1 cautions (linked);"),
     }
@@ -316,6 +335,7 @@ fn each_write_may_fail(rt: HostRuntime) -> Result<(), Fail> {
         ("audit", 9u64),
         ("check", 9),
         ("expand", 4),
+        ("reviewed", 4),
         ("report", 23),
         ("cautions", 11),
         ("rules", 6),

@@ -2,6 +2,7 @@ pub mod Refusals
 pub mod Subcommands
 pub mod ReportSteps
 pub mod EndingSteps
+pub mod ExpandSteps
 pub mod RowSteps
 pub mod ListSteps
 pub mod TextSteps

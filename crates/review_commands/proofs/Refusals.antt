@@ -9,12 +9,13 @@ use Rattle.review_cautions.specs.Classes.{class_name}
 use Rattle.review_cautions.specs.declared.class.CautionClass.{CautionClass}
 use Rattle.review_commands.specs.declared.request.PairPaths.{PairPaths}
 use Rattle.review_commands.specs.declared.request.Paths.{Paths}
-use Rattle.review_commands.specs.declared.request.Asked.TheVariants.{Cautions, Changes, Check, Compare, Grants, Report, Roots, Rules}
-use Rattle.review_commands.specs.declared.request.Asked.TheVariants.{Subjects, Who}
+use Rattle.review_commands.specs.declared.request.Asked.TheVariants.{Cautions, Changes, Check, Compare, Expand, Grants, Report}
+use Rattle.review_commands.specs.declared.request.Asked.TheVariants.{Roots, Rules, Subjects, Who}
+use Rattle.sudo_grammar.specs.declared.kind.Kind.{Kind}
 use Rattle.std.proofs.lemmas.Bool.{true≢false}
 use Rattle.audit_files.specs.Requests.{is_command}
 use Rattle.review_commands.specs.Body.Paths.{LackCommand, LackPair, LackPaths}
-use Rattle.review_commands.specs.Words.{AsksNothing, HavePair, HavePaths}
+use Rattle.review_commands.specs.Words.{AsksNothing, HavePair, HavePaths, kind_word}
 
 -- names that differ
 apart : (a b : Text) → bytes_eq a a ≡ true → bytes_eq a b ≡ false → a ≡ b → ⊥
@@ -23,25 +24,53 @@ apart a b self differ e = true≢false (sym self ∙ (ap (bytes_eq a) e ∙ diff
 none_there : (o : Option Text) (text : Text) → o ≡ None → o ≡ Some text → ⊥
 none_there o text none there = cc
 
-pub no_name : (name : Text) (rows : List Row) → name ≢ codes "check" → name ≢ codes "cautions" → name ≢ codes "report"
-    → name ≢ codes "grants" → name ≢ codes "compare" → name ≢ codes "roots" → name ≢ codes "subjects" → name ≢ codes "rules"
-    → name ≢ codes "who" → AsksNothing (name, rows)
-no_name name rows check cautions report grants compare roots subjects rules who (Check policy) stated fit = check stated.0
-no_name name rows check cautions report grants compare roots subjects rules who (Cautions policy links without) stated fit =
+pub no_name : (name : Text) (rows : List Row) → name ≢ codes "check" → name ≢ codes "expand" → name ≢ codes "cautions"
+    → name ≢ codes "report" → name ≢ codes "grants" → name ≢ codes "compare" → name ≢ codes "roots" → name ≢ codes "subjects"
+    → name ≢ codes "rules" → name ≢ codes "who" → AsksNothing (name, rows)
+no_name name rows check expand cautions report grants compare roots subjects rules who (Check policy) stated fit = check stated.0
+no_name name rows check expand cautions report grants compare roots subjects rules who (Expand policy kind alias) stated fit =
+    expand stated.0
+no_name name rows check expand cautions report grants compare roots subjects rules who (Cautions policy links without) stated fit =
     cautions stated.0
-no_name name rows check cautions report grants compare roots subjects rules who (Report paths workers senders) stated fit = report stated.0
-no_name name rows check cautions report grants compare roots subjects rules who (Grants paths user host) stated fit = grants stated.0
-no_name name rows check cautions report grants compare roots subjects rules who (Who paths command arguments runas) stated fit =
+no_name name rows check expand cautions report grants compare roots subjects rules who (Report paths workers senders) stated fit =
+    report stated.0
+no_name name rows check expand cautions report grants compare roots subjects rules who (Grants paths user host) stated fit =
+    grants stated.0
+no_name name rows check expand cautions report grants compare roots subjects rules who (Who paths command arguments runas) stated fit =
     who stated.0
-no_name name rows check cautions report grants compare roots subjects rules who (Compare paths user host) stated fit = compare stated.0
-no_name name rows check cautions report grants compare roots subjects rules who (Changes paths senders) stated fit = compare stated.0
-no_name name rows check cautions report grants compare roots subjects rules who (Roots paths all) stated fit = roots stated.0
-no_name name rows check cautions report grants compare roots subjects rules who (Subjects paths) stated fit = subjects stated.0
-no_name name rows check cautions report grants compare roots subjects rules who (Rules paths workers senders) stated fit = rules stated.0
+no_name name rows check expand cautions report grants compare roots subjects rules who (Compare paths user host) stated fit =
+    compare stated.0
+no_name name rows check expand cautions report grants compare roots subjects rules who (Changes paths senders) stated fit =
+    compare stated.0
+no_name name rows check expand cautions report grants compare roots subjects rules who (Roots paths all) stated fit = roots stated.0
+no_name name rows check expand cautions report grants compare roots subjects rules who (Subjects paths) stated fit = subjects stated.0
+no_name name rows check expand cautions report grants compare roots subjects rules who (Rules paths workers senders) stated fit =
+    rules stated.0
 
 pub check_without_file : (rows : List Row) → first_of (codes "file") rows ≡ None → AsksNothing (codes "check", rows)
 check_without_file rows none (Check policy) stated fit = none_there _ _ none stated.1.file_is
 check_without_file rows none _ stated fit = apart _ _ refl refl stated.0
+
+pub expand_without_file : (rows : List Row) → first_of (codes "file") rows ≡ None → AsksNothing (codes "expand", rows)
+expand_without_file rows none (Expand policy kind name) stated fit = none_there _ _ none stated.1.file_is
+expand_without_file rows none _ stated fit = apart _ _ refl refl stated.0
+
+pub expand_without_kind : (rows : List Row) → first_of (codes "kind") rows ≡ None → AsksNothing (codes "expand", rows)
+expand_without_kind rows none (Expand policy kind name) stated fit = none_there _ _ none stated.2
+expand_without_kind rows none _ stated fit = apart _ _ refl refl stated.0
+
+pub expand_without_name : (rows : List Row) → first_of (codes "name") rows ≡ None → AsksNothing (codes "expand", rows)
+expand_without_name rows none (Expand policy kind name) stated fit = none_there _ _ none stated.3
+expand_without_name rows none _ stated fit = apart _ _ refl refl stated.0
+
+some_word : (a b : Text) → Some a ≡ Some b → a ≡ b
+some_word a b e = cc
+
+-- a word names no kind of alias
+pub expand_of_bad_kind : (rows : List Row) (word : Text) → first_of (codes "kind") rows ≡ Some word
+    → ((k : Kind) → word ≢ kind_word k) → AsksNothing (codes "expand", rows)
+expand_of_bad_kind rows word is bad (Expand policy kind name) stated fit = bad kind (some_word _ _ (sym is ∙ stated.2))
+expand_of_bad_kind rows word is bad _ stated fit = apart _ _ refl refl stated.0
 
 pub cautions_without_file : (rows : List Row) → first_of (codes "file") rows ≡ None → AsksNothing (codes "cautions", rows)
 cautions_without_file rows none (Cautions policy links without) stated fit = none_there _ _ none stated.1.file_is

@@ -7,6 +7,7 @@ pub mod SubjectRows
 pub mod RootRows
 pub mod Reviewing
 pub mod Surveying
+pub mod Expanding
 pub mod Comparing
 pub mod Changes
 pub mod Words

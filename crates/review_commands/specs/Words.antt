@@ -10,9 +10,11 @@ use Rattle.review_commands.specs.declared.request.Asked.{Asked}
 use Rattle.review_commands.specs.declared.request.PairPaths.{PairPaths}
 use Rattle.review_commands.specs.declared.request.Paths.{Paths}
 use Rattle.review_commands.specs.declared.request.PolicyPath.{PolicyPath}
-use Rattle.review_commands.specs.declared.request.Asked.TheVariants.{Cautions, Changes, Check, Compare, Grants, Report}
+use Rattle.review_commands.specs.declared.request.Asked.TheVariants.{Cautions, Changes, Check, Compare, Expand, Grants, Report}
 use Rattle.review_commands.specs.declared.request.Asked.TheVariants.{Roots, Rules, Subjects, Who}
 use Rattle.audit_files.specs.Requests.{is_command}
+use Rattle.sudo_grammar.specs.declared.kind.Kind.{Kind}
+use Rattle.sudo_grammar.specs.declared.kind.Kind.TheVariants as kind
 
 -- --without CLASS, any number of times
 abbrev pub without_rule : Rule
@@ -33,6 +35,17 @@ netgroups_rule = name_rule (codes "netgroups")
 -- NAME FILE [--root DIR] [--netgroups F]
 abbrev pub policy_app : Text → App
 policy_app name = with_rule (with_rule (with_rule (new_app name) (required_word (codes "file"))) root_rule) netgroups_rule
+
+-- the word of a kind of alias
+abbrev pub kind_word : Kind → Text
+kind_word kind.User = codes "user"
+kind_word kind.Runas = codes "runas"
+kind_word kind.Host = codes "host"
+kind_word kind.Cmnd = codes "cmnd"
+
+-- expand FILE KIND NAME [--root DIR] [--netgroups F]
+abbrev pub expand_app : App
+expand_app = with_rule (with_rule (policy_app (codes "expand")) (required_word (codes "kind"))) (required_word (codes "name"))
 
 -- cautions FILE [--root DIR] [--netgroups F] [--links F] [--without CLASS]...
 abbrev pub cautions_app : App
@@ -87,8 +100,9 @@ named_app = on_top (λ s. record s { has_version = true; subcommand_required = t
 -- the program's command, with its subcommands
 abbrev pub program_app : App
 program_app = with_subcommand (with_subcommand (with_subcommand (with_subcommand (with_subcommand (with_subcommand (with_subcommand
-    (with_subcommand (with_subcommand named_app (policy_app (codes "check")).top) cautions_app.top) (judging_app (codes "report")).top)
-    grants_app.top) who_app.top) roots_app.top) (paths_app (codes "subjects")).top) (judging_app (codes "rules")).top) compare_app.top
+    (with_subcommand (with_subcommand (with_subcommand named_app (policy_app (codes "check")).top) expand_app.top) cautions_app.top)
+    (judging_app (codes "report")).top) grants_app.top) who_app.top) roots_app.top) (paths_app (codes "subjects")).top)
+    (judging_app (codes "rules")).top) compare_app.top
 
 -- the rows hold the main file of a policy, the folder below which its files are, and the file of its netgroups, if they are given
 pub record HavePolicy (rows : List Row) (policy : PolicyPath) : Type 0 where
@@ -118,6 +132,9 @@ IsFlag on (Some text) = (text ≡ codes "true" → on ≡ true) × (text ≡ cod
 -- the rows of the subcommand hold this command
 abbrev pub HoldsCommand : Asked → Text × List Row → Type 0
 HoldsCommand (Check policy) p = (p.0 ≡ codes "check") × HavePolicy p.1 policy
+HoldsCommand (Expand policy kind name) p =
+    (p.0 ≡ codes "expand") × HavePolicy p.1 policy × (first_of (codes "kind") p.1 ≡ Some (kind_word kind))
+    × (first_of (codes "name") p.1 ≡ Some name.now)
 HoldsCommand (Cautions policy links without) p =
     (p.0 ≡ codes "cautions") × HavePolicy p.1 policy × (first_of (codes "links") p.1 ≡ option_map (λ s. s.now) links)
     × (unwrap_or (all_of (codes "without") p.1) [] ≡ map class_name without.items)
@@ -150,6 +167,7 @@ HoldsCommand (Report paths workers senders) p =
 -- the number of workers is one that an audit accepts
 abbrev pub WorkersFit : Asked → Type 0
 WorkersFit (Check policy) = ⊤
+WorkersFit (Expand policy kind name) = ⊤
 WorkersFit (Cautions policy links without) = ⊤
 WorkersFit (Grants paths user host) = ⊤
 WorkersFit (Who paths command arguments runas) = ⊤
@@ -161,8 +179,8 @@ WorkersFit (Rules paths workers senders) = (1 ≤ workers) × (workers ≤ 16)
 WorkersFit (Report paths workers senders) = (1 ≤ workers) × (workers ≤ 16)
 
 -- a subcommand with these rows asks for no command: its name is another, a word is missing, a CLASS is no class of
--- cautions, a PATH is neither one from the root nor `sudoedit`, its number of workers is outside the range that an audit
--- accepts, or a user or a host is named beside requests
+-- cautions, a KIND is no kind of alias, a PATH is neither one from the root nor `sudoedit`, its number of workers is outside
+-- the range that an audit accepts, or a user or a host is named beside requests
 abbrev pub AsksNothing : Text × List Row → Type 0
 AsksNothing p = (asked : Asked) → HoldsCommand asked p → WorkersFit asked → ⊥
 

@@ -2,9 +2,9 @@
 ghost use Rattle.std.specs.Prelude.{◌≡◌, IfOk, codes, false};
 ghost use Rattle.clap.specs.Words.{app_of, rule_of};
 ghost use Rattle.clap.specs.declared.builder.command.Command.TheViews.{out-Command as fields_of};
-ghost use Rattle.review_commands.specs.Words.{all_rule, cautions_app, compare_app, grants_app, judging_app, name_rule, netgroups_rule};
+ghost use Rattle.review_commands.specs.Words.{all_rule, cautions_app, compare_app, expand_app, grants_app, judging_app, name_rule};
 ghost use Rattle.review_commands.specs.Words.{named_app, pair_app, paths_app, policies_app, policy_app, program_app, requests_rule};
-ghost use Rattle.review_commands.specs.Words.{root_rule, roots_app};
+ghost use Rattle.review_commands.specs.Words.{netgroups_rule, root_rule, roots_app};
 ghost use Rattle.review_commands.specs.Words.{who_app, without_rule};
 
 use clap::{Arg, ArgAction, Command};
@@ -61,6 +61,20 @@ fn check<'a>(alloc: Global) -> Result<Command<'a>, AllocError>
 {
     let about = "Lists undefined, cyclic and unused aliases";
     with_policy(alloc, "check", about)
+}
+
+// Returns `expand FILE KIND NAME [--root DIR] [--netgroups F]`.
+fn expand<'a>(alloc: Global) -> Result<Command<'a>, AllocError>
+    ensures app { IfOk result (λ c. app_of c ≡ expand_app) }
+    ensures local { IfOk result (λ c. (fields_of c).has_globals ≡ false) }
+{
+    with_policy(
+        alloc,
+        "expand",
+        "Prints the members of an alias, written out",
+    )?
+    .arg(word(alloc, "kind", "user, runas, host or cmnd"))?
+    .arg(word(alloc, "name", "The alias"))
 }
 
 // Returns `cautions FILE [--root DIR] [--netgroups F] [--links F] [--without CLASS]...`.
@@ -233,7 +247,8 @@ pub(crate) fn program<'a>(alloc: Global) -> Result<Command<'a>, AllocError>
     ensures app { IfOk result (λ c. app_of c ≡ program_app) }
 {
     let with_check = with_subcommand(named(alloc), check(alloc))?;
-    let with_cautions = with_subcommand(with_check, cautions(alloc))?;
+    let with_expand = with_subcommand(with_check, expand(alloc))?;
+    let with_cautions = with_subcommand(with_expand, cautions(alloc))?;
     let with_report = with_subcommand(with_cautions, report(alloc))?;
     let with_grants = with_subcommand(with_report, grants(alloc))?;
     let with_who = with_subcommand(with_grants, who(alloc))?;

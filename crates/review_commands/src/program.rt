@@ -6,6 +6,7 @@ use crate::cautions::cautions_run;
 use crate::changes::changes_run;
 use crate::check::check_run;
 use crate::compare::compare_run;
+use crate::expand::expand_run;
 use crate::grants::{ScopeNames, grants_run};
 use crate::links::machine_links;
 use crate::machine_file::MachineFileFault;
@@ -29,6 +30,7 @@ use std::env;
 use std::fs::File;
 use std::sync::Wait;
 use std::thread::Threads;
+use sudo_grammar::Kind;
 
 // The files that a command reads: those of the policy, of users, of hosts and of requests.
 #[derive(Drop)]
@@ -128,6 +130,22 @@ fn run_check(rt: &HostRuntime, policy: PolicyPath<'_>) -> u8 {
             rt.alloc(),
             policy.file.as_bytes(),
             &mut files,
+            &mut Device::new(rt.stdout()),
+            &mut Device::new(rt.stderr()),
+        ),
+        Err(fault) => refused(rt, fault),
+    }
+}
+
+// Writes an alias of a policy out, and returns the exit status.
+fn run_expand(rt: &HostRuntime, policy: PolicyPath<'_>, kind: Kind, name: &str) -> u8 {
+    match policy_files(rt, policy) {
+        Ok(mut files) => expand_run(
+            rt.alloc(),
+            policy.file.as_bytes(),
+            &mut files,
+            kind,
+            name.as_bytes(),
             &mut Device::new(rt.stdout()),
             &mut Device::new(rt.stderr()),
         ),
@@ -328,6 +346,7 @@ fn run<T: Threads + Wait + Sync>(rt: &HostRuntime, threads: &T, asked: Asked<'_>
 {
     match asked {
         Asked::Check { policy } => run_check(rt, policy),
+        Asked::Expand { policy, kind, name } => run_expand(rt, policy, kind, name),
         Asked::Cautions {
             policy,
             links,

@@ -1,6 +1,7 @@
 //! The commands that the command line can ask for.
 
 use review_cautions::CautionClass;
+use sudo_grammar::Kind;
 
 /// The main file of a policy, the folder below which all files of the policy are, and the file of its netgroups, if they are given.
 #[derive(Clone, Copy, Debug)]
@@ -34,6 +35,12 @@ pub enum Asked<'a> {
     /// `check FILE [--root DIR] [--netgroups F]`: lists the findings on the aliases of a policy.
     Check {
         policy: PolicyPath<'a>,
+    },
+    /// `expand FILE KIND NAME [--root DIR] [--netgroups F]`: writes an alias of a policy out.
+    Expand {
+        policy: PolicyPath<'a>,
+        kind: Kind,
+        name: &'a str,
     },
     /// `cautions FILE [--root DIR] [--netgroups F] [--links F] [--without CLASS]...`: lists what sudo reads or judges otherwise on
     /// a machine that has the links of a file, or the usual ones, but for some classes.

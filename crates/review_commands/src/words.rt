@@ -8,8 +8,9 @@ ghost use Rattle.review_cautions.specs.declared.class.CautionClass.{CautionClass
 ghost use Rattle.review_commands.specs.Words.{AsksNothing, IsErrorOfWords};
 ghost use Rattle.audit_files.specs.Requests.{is_command as command_test};
 ghost use Rattle.review_commands.specs.Body.Paths.{LackPair, LackPaths};
+ghost use Rattle.sudo_grammar.specs.declared.kind.Kind.{Kind as TheKind};
 ghost use Rattle.review_commands.specs.Words.{HavePair, HavePaths, HavePolicy, HoldsCommand, IsFlag};
-ghost use Rattle.review_commands.specs.Words.{WorkersFit, program_app};
+ghost use Rattle.review_commands.specs.Words.{WorkersFit, kind_word, program_app};
 
 use crate::command_line::program;
 use crate::request::{Asked, PairPaths, Paths, PolicyPath};
@@ -20,6 +21,7 @@ use run_base::{value, values, workers};
 use std::alloc::{AllocError, AllocFailed, Global};
 use std::convert::AsStr;
 use std::io::ErrorKind as ReadKind;
+use sudo_grammar::Kind;
 
 // The reason why a subcommand with its values asks for no command.
 #[derive(Clone, Copy)]
@@ -28,6 +30,8 @@ enum Unasked {
     Missing,
     // A word names no class of cautions.
     BadClass,
+    // A word names no kind of alias.
+    BadKind,
     // A path of a command is neither one from the root nor `sudoedit`.
     BadCommand,
     // A user or a host is named beside requests.
@@ -101,6 +105,49 @@ fn asked_check<'a>(given: &ArgMatches<'a>) -> Result<Asked<'a>, Unasked>
         Some(policy) => Ok(Asked::Check { policy }),
         None => Err(Unasked::Missing),
     }
+}
+
+// Returns the kind that a word names, if it names one.
+fn kind_of(word: &str) -> Option<Kind>
+    ensures some { IfSome result (λ k. word.now ≡ kind_word k) }
+    ensures none { result ≡ None → (k : TheKind) → word.now ≢ kind_word k }
+{
+    if word == "user" {
+        return Some(Kind::User);
+    }
+    if word == "runas" {
+        return Some(Kind::Runas);
+    }
+    if word == "host" {
+        return Some(Kind::Host);
+    }
+    if word == "cmnd" {
+        return Some(Kind::Cmnd);
+    }
+    None
+}
+
+// Returns the command of the values of `expand`.
+fn asked_expand<'a>(given: &ArgMatches<'a>) -> Result<Asked<'a>, Unasked>
+    ensures stated { IfOk result
+        (λ a. HoldsCommand a (codes "expand", rows_of (found_of given.now))) }
+    ensures workers { IfOk result WorkersFit }
+    ensures nothing { IfErr result (λ e. e ≢ Unasked.Memory
+        → AsksNothing (codes "expand", rows_of (found_of given.now))) }
+{
+    let Some(policy) = policy_of(given) else {
+        return Err(Unasked::Missing);
+    };
+    let Some(word) = value(given, "kind") else {
+        return Err(Unasked::Missing);
+    };
+    let Some(kind) = kind_of(word) else {
+        return Err(Unasked::BadKind);
+    };
+    let Some(name) = value(given, "name") else {
+        return Err(Unasked::Missing);
+    };
+    Ok(Asked::Expand { policy, kind, name })
 }
 
 // Returns the command of the values of `cautions`.
@@ -356,6 +403,9 @@ fn asked_by<'a>(alloc: Global, name: &str, given: &ArgMatches<'a>) -> Result<Ask
     if name == "compare" {
         return asked_compare(alloc, given);
     }
+    if name == "expand" {
+        return asked_expand(given);
+    }
     if name == "grants" {
         return asked_grants(given);
     }
@@ -407,6 +457,10 @@ fn unasked_error(command: &mut Command<'_>, unasked: Unasked) -> Result<Error, A
             ErrorKind::InvalidValue,
             "CLASS is none of the classes of cautions",
         ),
+        Unasked::BadKind => command.error(
+            ErrorKind::InvalidValue,
+            "KIND is none of user, runas, host and cmnd",
+        ),
         Unasked::BadCommand => command.error(
             ErrorKind::InvalidValue,
             "PATH begins with a slash, or is sudoedit",
@@ -439,7 +493,8 @@ fn asked_of<'a, S: AsStr>(
 }
 
 /// Returns the command that the words ask for, the program's own name first, as `clap` reads them:
-/// `check FILE`, `cautions FILE [--links F] [--without CLASS]...`, `report FILE --users F --hosts F [--workers N] [NAME=PATH]...`,
+/// `check FILE`, `expand FILE KIND NAME`, `cautions FILE [--links F] [--without CLASS]...`,
+/// `report FILE --users F --hosts F [--workers N] [NAME=PATH]...`,
 /// `grants FILE --users F --hosts F [--user NAME] [--host NAME]`,
 /// `who FILE --users F --hosts F --command PATH [--arguments TEXT] [--runas USER]`, `roots FILE --users F --hosts F [--all]`,
 /// `subjects FILE --users F --hosts F`,
@@ -449,8 +504,8 @@ fn asked_of<'a, S: AsStr>(
 /// takes `--root DIR` behind its name, and each `--netgroups F`.
 ///
 /// Returns `clap`'s error, apart from allocation failure, exactly if `clap` does not accept the
-/// words (they are no such command, or ask for help or for the version), a CLASS is no class of cautions, a PATH neither begins
-/// with a slash nor is `sudoedit`, or a user or a host is named beside requests.
+/// words (they are no such command, or ask for help or for the version), a CLASS is no class of cautions, a KIND no kind of alias, a
+/// PATH neither begins with a slash nor is `sudoedit`, or a user or a host is named beside requests.
 pub fn asked<'a, S: AsStr>(alloc: Global, words: &'a [S]) -> Result<Asked<'a>, Error>
     ensures stated { IfOk result (λ a. (p : Text × List Row)
         × (subcommand_of program_app (map S.text words.entry.now) ≡ Some p) × HoldsCommand a p) }

@@ -3,8 +3,8 @@ use Rattle.std.specs.declared.alloc.AllocError.{AllocError}
 use Rattle.clap.specs.Words.{AddsSubcommand, App, app_of, with_subcommand}
 use Rattle.clap.specs.declared.builder.command.Command.{Command}
 use Rattle.clap.specs.declared.builder.command.Command.TheViews.{out-Command}
-use Rattle.review_commands.specs.Words.{cautions_app, compare_app, grants_app, judging_app, named_app, paths_app, policy_app}
-use Rattle.review_commands.specs.Words.{roots_app, who_app}
+use Rattle.review_commands.specs.Words.{cautions_app, compare_app, expand_app, grants_app, judging_app, named_app, paths_app}
+use Rattle.review_commands.specs.Words.{policy_app, roots_app, who_app}
 use Rattle.review_commands.proofs.command_line.program.Goals as goal
 
 -- a command to which a subcommand is added
@@ -22,7 +22,9 @@ pub returns : goal.returns
 returns c =
     let check = added (Ok c.in_ok-with_check.with_check) c.check.result c.named.result named_app (policy_app (codes "check"))
     c.named.ensures.app c.check.ensures.app c.check.ensures.local c.in_ok-with_check.ensures in
-    let cautions = added (Ok c.in_ok-with_cautions.with_cautions) c.cautions.result c.in_ok-with_check.with_check _ cautions_app check
+    let expand = added (Ok c.in_ok-with_expand.with_expand) c.expand.result c.in_ok-with_check.with_check _ expand_app check
+    c.expand.ensures.app c.expand.ensures.local c.in_ok-with_expand.ensures in
+    let cautions = added (Ok c.in_ok-with_cautions.with_cautions) c.cautions.result c.in_ok-with_expand.with_expand _ cautions_app expand
     c.cautions.ensures.app c.cautions.ensures.local c.in_ok-with_cautions.ensures in
     let report = added (Ok c.in_ok-with_report.with_report) c.report.result c.in_ok-with_cautions.with_cautions _
     (judging_app (codes "report")) cautions c.report.ensures.app c.report.ensures.local c.in_ok-with_report.ensures in
@@ -37,6 +39,6 @@ returns c =
     let rules = added (Ok c.in_ok-with_rules.with_rules) c.rules.result c.in_ok-with_subjects.with_subjects _
     (judging_app (codes "rules")) subjects c.rules.ensures.app c.rules.ensures.local c.in_ok-with_rules.ensures in
     record {
-      app = added c.with_subcommand-9.result c.compare.result c.in_ok-with_rules.with_rules _ compare_app rules
-          c.compare.ensures.app c.compare.ensures.local c.with_subcommand-9.ensures;
+      app = added c.with_subcommand-10.result c.compare.result c.in_ok-with_rules.with_rules _ compare_app rules
+          c.compare.ensures.app c.compare.ensures.local c.with_subcommand-10.ensures;
     }
