@@ -78,7 +78,8 @@ module _ (met : Choice) (c x : List ℕ) where
   -- no row applies where none of the list does
   out : (rs : List Ruled) (k : ℕ) (s : Ruled) → k < length rs → s ≡ get_or rs k s → list_any applies rs ≡ false → applies s ≡ true → ⊥
   out [] k s within is none fits = omega (arith, within)
-  out (r ∷ rs) zero s within is none fits = let bad : true ≡ false = sym (ap (λ b. b || list_any applies rs) (sym (ap applies is) ∙ fits)) ∙ none in cc
+  out (r ∷ rs) zero s within is none fits =
+      let bad : true ≡ false = sym (ap (λ b. b || list_any applies rs) (sym (ap applies is) ∙ fits)) ∙ none in cc
   out (r ∷ rs) (suc k) s within is none fits = out rs k s (omega (arith, within)) is (or-right (applies r) none) fits
     where
       or-right : (b : Bool) → (b || list_any applies rs) ≡ false → list_any applies rs ≡ false
