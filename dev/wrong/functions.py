@@ -1,0 +1,100 @@
+"""The functions of a crate's source, as `rt fmt` writes them, and how most of them are taken out of a copy of the crate.
+
+The proof of a function cites the contracts of those that it calls, and never their bodies. So what a function that is taken
+out leaves is its contract: its body says that control never comes there, and its proof is a hole.
+"""
+
+import glob
+import os
+import re
+from collections.abc import Container, Iterator
+from typing import NamedTuple
+
+# A function with what stands before its body, and its body, by the indentation of both. One with an empty body is a law.
+FUNCTION = re.compile(
+    r"^( *)(?:pub(?:\([a-z]+\))? )?fn (\w+)((?:(?!\n\1\{\}| \{\}\n|;\n).)*?)(?:\n\1| )\{\n(.*?)^\1\}", re.MULTILINE | re.DOTALL
+)
+OWNER = re.compile(r"^(?:impl\b|(?:pub(?:\([a-z]+\))? )?trait\b)[^{]*", re.MULTILINE)
+# The attribute of a function whose proof is one with those of others.
+CYCLE = re.compile(r"#\[cycle\(\w+\)\]\n(?: *(?:#\[|//).*\n)*\Z")
+OF_TYPE = re.compile(r"impl\s+(\w+)\s*")
+BODY = "unreachable!()"
+PROOF = """use Rattle.{crate}.proofs.{path}.Statement.{{statement}}
+
+pub {name}_spec : {{M : Type 1}} → statement M
+{name}_spec = ?
+"""
+# The other files of a function's proof, which a hole has no use for.
+ANSWERS = ("Answers.antt", "Invariants.antt")
+
+
+class Function(NamedTuple):
+    """A function: its name below its crate, its file below the crate's folder, and its places there. One of a trait or of a cycle
+    of calls has no name here, since its proof is not found by it."""
+
+    name: str | None
+    file: str
+    indent: str
+    start: int
+    body: int
+    end: int
+
+
+def type_of(text: str) -> str | None:
+    """Returns the type whose functions stand at the end of a text, `None` where they are a trait's."""
+    head = OWNER.findall(text)[-1]
+    while (less := re.sub(r"<[^<>]*>", "", head)) != head:
+        head = less
+    found = OF_TYPE.fullmatch(head)
+    return found[1] if found else None
+
+
+def functions_in(text: str, file: str) -> Iterator[Function]:
+    """Yields the functions that have a body, in a file of a crate."""
+    module = [part for part in file.removeprefix("src/").removesuffix(".rt").split("/") if part != "lib"]
+    for match in FUNCTION.finditer(text):
+        parts = [*module, match[2]]
+        if match[1]:
+            owner = type_of(text[: match.start()])
+            parts = [*module, owner, match[2]] if owner else []
+        if CYCLE.search(text, 0, match.start()):
+            parts = []
+        yield Function("::".join(parts) or None, file, match[1], match.start(), match.start(4), match.end())
+
+
+def text_of(folder: str, file: str) -> str:
+    """Returns the text of a file of a crate."""
+    with open(os.path.join(folder, file), encoding="utf-8") as it:
+        return it.read()
+
+
+def functions_of(folder: str) -> list[Function]:
+    """Returns the functions of a crate that have a body."""
+    files = sorted(glob.glob("src/**/*.rt", root_dir=folder, recursive=True))
+    return [function for file in files for function in functions_in(text_of(folder, file), file)]
+
+
+def take_out(folder: str, crate: str, kept: Container[str]) -> None:
+    """Takes all functions but those of these names out of a copy of a crate. One that has no name stays."""
+    for function in reversed(functions_of(folder)):
+        if function.name is None or function.name in kept:
+            continue
+        text = text_of(folder, function.file)
+        left = f"{function.indent}    {BODY}\n{function.indent}}}"
+        with open(os.path.join(folder, function.file), "w", encoding="utf-8") as it:
+            it.write(text[: function.body] + left + text[function.end :])
+        path = function.name.split("::")
+        proof = os.path.join(folder, "proofs", *path)
+        os.makedirs(proof, exist_ok=True)
+        for name in ANSWERS:
+            if os.path.exists(os.path.join(proof, name)):
+                os.unlink(os.path.join(proof, name))
+        with open(os.path.join(proof, "Proof.antt"), "w", encoding="utf-8") as it:
+            it.write(PROOF.format(crate=crate, path=".".join(path), name=path[-1]))
+
+
+def lines_of(folder: str, function: Function) -> range:
+    """Returns the numbers of the lines on which a function stands, with those right above that belong to it."""
+    text = text_of(folder, function.file)
+    above = text.rfind("\n\n", 0, function.start) + 1
+    return range(text.count("\n", 0, above) + 1, text.count("\n", 0, function.end) + 2)
