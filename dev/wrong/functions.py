@@ -15,7 +15,6 @@ FUNCTION = re.compile(
     r"^( *)(?:pub(?:\([a-z]+\))? )?fn (\w+)((?:(?!\n\1\{\}| \{\}\n|;\n).)*?)(?:\n\1| )\{\n(.*?)^\1\}", re.MULTILINE | re.DOTALL
 )
 OWNER = re.compile(r"^(?:impl\b|(?:pub(?:\([a-z]+\))? )?trait\b)[^{]*", re.MULTILINE)
-# The attribute of a function whose proof is one with those of others.
 CYCLE = re.compile(r"#\[cycle\(\w+\)\]\n(?: *(?:#\[|//).*\n)*\Z")
 OF_TYPE = re.compile(r"impl\s+(\w+)\s*")
 BODY = "unreachable!()"
@@ -29,10 +28,11 @@ ANSWERS = ("Answers.antt", "Invariants.antt")
 
 
 class Function(NamedTuple):
-    """A function: its name below its crate, its file below the crate's folder, and its places there. One of a trait or of a cycle
-    of calls has no name here, since its proof is not found by it."""
+    """A function: its name below its crate, its file below the crate's folder, and its places there. One of a trait has no name
+    here. It stays in each copy, as does one of a cycle of calls, whose proof is one with those of others."""
 
     name: str | None
+    stays: bool
     file: str
     indent: str
     start: int
@@ -57,9 +57,8 @@ def functions_in(text: str, file: str) -> Iterator[Function]:
         if match[1]:
             owner = type_of(text[: match.start()])
             parts = [*module, owner, match[2]] if owner else []
-        if CYCLE.search(text, 0, match.start()):
-            parts = []
-        yield Function("::".join(parts) or None, file, match[1], match.start(), match.start(4), match.end())
+        stays = not parts or CYCLE.search(text, 0, match.start()) is not None
+        yield Function("::".join(parts) or None, stays, file, match[1], match.start(), match.start(4), match.end())
 
 
 def text_of(folder: str, file: str) -> str:
@@ -75,9 +74,9 @@ def functions_of(folder: str) -> list[Function]:
 
 
 def take_out(folder: str, crate: str, kept: Container[str]) -> None:
-    """Takes all functions but those of these names out of a copy of a crate. One that has no name stays."""
+    """Takes all functions but those of these names out of a copy of a crate, and but those that always stay."""
     for function in reversed(functions_of(folder)):
-        if function.name is None or function.name in kept:
+        if function.name is None or function.stays or function.name in kept:
             continue
         text = text_of(folder, function.file)
         left = f"{function.indent}    {BODY}\n{function.indent}}}"

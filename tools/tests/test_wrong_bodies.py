@@ -272,7 +272,7 @@ class WrongBodies(Case):
                 text = f"{head} {{\n    fn law() {{}}\n\n    fn none();\n\n    fn f() {{\n        g()\n    }}\n}}\n"
                 self.assertEqual([it.name for it in functions_in(text, "src/a/b.rt")], [name])
         cycle = "#[cycle(c)]\n// Why.\nfn f() {\n    f()\n}\n\nfn g() {\n    f()\n}\n"
-        self.assertEqual([it.name for it in functions_in(cycle, "src/lib.rt")], [None, "g"])
+        self.assertEqual([(it.name, it.stays) for it in functions_in(cycle, "src/lib.rt")], [("f", True), ("g", False)])
 
     def test_one_that_is_named(self) -> None:
         for folder in FOLDERS:
