@@ -7,13 +7,20 @@ out leaves is its contract: its body says that control never comes there, and it
 import glob
 import os
 import re
-from collections.abc import Container, Iterator
+from collections.abc import Container, Iterator, Mapping
 from typing import NamedTuple
 
-# A function with what stands before its body, and its body, by the indentation of both. One with an empty body is a law.
+# A function, by the indentation of it and of its body. A body on the line of the head is one without clauses before it; one
+# that is empty is a law's.
+_LAW = r"\n\1\{\}| \{\}\n|;\n"
+_CLAUSE = r"\n *(?:ghost|requires|ensures|where)\b"
 FUNCTION = re.compile(
-    r"^( *)(?:pub(?:\([a-z]+\))? )?fn (\w+)((?:(?!\n\1\{\}| \{\}\n|;\n).)*?)(?:\n\1| )\{\n(.*?)^\1\}", re.MULTILINE | re.DOTALL
+    r"^( *)(?:pub(?:\([a-z]+\))? )?fn (\w+)"
+    rf"(?:(?:(?!{_CLAUSE}|{_LAW}|\n\1\{{).)*? |(?:(?!{_LAW}).)*?\n\1)"
+    r"\{\n(.*?)^\1\}",
+    re.MULTILINE | re.DOTALL,
 )
+TYPE = re.compile(r"^(?:pub(?:\([a-z]+\))? )?(?:struct|enum) (\w+)", re.MULTILINE)
 OWNER = re.compile(r"^(?:impl\b|(?:pub(?:\([a-z]+\))? )?trait\b)[^{]*", re.MULTILINE)
 CYCLE = re.compile(r"#\[cycle\(\w+\)\]\n(?: *(?:#\[|//).*\n)*\Z")
 OF_TYPE = re.compile(r"impl\s+(\w+)\s*")
@@ -49,28 +56,34 @@ def type_of(text: str) -> str | None:
     return found[1] if found else None
 
 
-def functions_in(text: str, file: str) -> Iterator[Function]:
-    """Yields the functions that have a body, in a file of a crate."""
-    module = [part for part in file.removeprefix("src/").removesuffix(".rt").split("/") if part != "lib"]
-    for match in FUNCTION.finditer(text):
-        parts = [*module, match[2]]
-        if match[1]:
-            owner = type_of(text[: match.start()])
-            parts = [*module, owner, match[2]] if owner else []
-        stays = not parts or CYCLE.search(text, 0, match.start()) is not None
-        yield Function("::".join(parts) or None, stays, file, match[1], match.start(), match.start(4), match.end())
-
-
 def text_of(folder: str, file: str) -> str:
     """Returns the text of a file of a crate."""
     with open(os.path.join(folder, file), encoding="utf-8") as it:
         return it.read()
 
 
+def module_of(file: str) -> list[str]:
+    """Returns the names that lead to the module that a file is."""
+    return [part for part in file.removeprefix("src/").removesuffix(".rt").split("/") if part != "lib"]
+
+
+def functions_in(text: str, file: str, homes: Mapping[str, list[str]]) -> Iterator[Function]:
+    """Yields the functions that have a body, in a file of a crate. Those of a type are named by the module that is its home."""
+    for match in FUNCTION.finditer(text):
+        parts = [*module_of(file), match[2]]
+        if match[1]:
+            owner = type_of(text[: match.start()])
+            parts = [*homes.get(owner, module_of(file)), owner, match[2]] if owner else []
+        stays = not parts or CYCLE.search(text, 0, match.start()) is not None
+        yield Function("::".join(parts) or None, stays, file, match[1], match.start(), match.start(3), match.end())
+
+
 def functions_of(folder: str) -> list[Function]:
     """Returns the functions of a crate that have a body."""
     files = sorted(glob.glob("src/**/*.rt", root_dir=folder, recursive=True))
-    return [function for file in files for function in functions_in(text_of(folder, file), file)]
+    texts = {file: text_of(folder, file) for file in files}
+    homes = {name: module_of(file) for file, text in texts.items() for name in TYPE.findall(text)}
+    return [function for file, text in texts.items() for function in functions_in(text, file, homes)]
 
 
 def take_out(folder: str, crate: str, kept: Container[str]) -> None:

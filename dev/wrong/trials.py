@@ -19,7 +19,7 @@ from concurrent.futures import Future, ThreadPoolExecutor
 from types import ModuleType
 from typing import Any, NamedTuple
 
-from wrong.functions import Function, functions_in, functions_of, lines_of, take_out, text_of
+from wrong.functions import Function, functions_of, lines_of, take_out, text_of
 
 JOBS = ["--jobs", "1"]
 HOLES = re.compile(r"no holes|depends on a hole in ")
@@ -63,6 +63,7 @@ def load_rt(path: str) -> ModuleType:
 
 def turned_by(path: str, folder: str) -> tuple[Function, ...]:
     """Returns the functions of a crate whose bodies an edit turns, none where a place of it lies elsewhere."""
+    functions = [it for it in functions_of(folder) if it.name]
     found: dict[str, Function] = {}
     file = ""
     with open(path, encoding="utf-8") as it:
@@ -72,11 +73,9 @@ def turned_by(path: str, folder: str) -> tuple[Function, ...]:
         if head == "file":
             file = text.strip()
         elif head == "old":
-            if not os.path.isfile(os.path.join(folder, file)):
-                return ()
-            source = text_of(folder, file)
+            source = text_of(folder, file) if os.path.isfile(os.path.join(folder, file)) else ""
             at = source.find(text)
-            around = [it for it in functions_in(source, file) if it.name and it.body <= at and at + len(text) <= it.end]
+            around = [it for it in functions if it.file == file and it.body <= at and at + len(text) <= it.end]
             if not around:
                 return ()
             found[str(around[0].name)] = around[0]
@@ -201,11 +200,7 @@ def verdicts(rt: Any, crates: Iterable[tuple[Any, list[str]]], jobs: int) -> Ite
     """Tries wrong bodies of crates, given by their paths, some at a time, and yields what each comes to."""
     with ThreadPoolExecutor(jobs) as pool:
         trials = [Trial(rt, crate, paths, pool) for crate, paths in crates]
-        try:
-            for trial in trials:
-                yield from trial.together()
-            for trial in trials:
-                yield from trial.alone()
-        except BaseException:
-            pool.shutdown(cancel_futures=True)
-            raise
+        for trial in trials:
+            yield from trial.together()
+        for trial in trials:
+            yield from trial.alone()

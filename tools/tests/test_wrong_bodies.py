@@ -270,9 +270,13 @@ class WrongBodies(Case):
         ):
             with self.subTest(head):
                 text = f"{head} {{\n    fn law() {{}}\n\n    fn none();\n\n    fn f() {{\n        g()\n    }}\n}}\n"
-                self.assertEqual([it.name for it in functions_in(text, "src/a/b.rt")], [name])
+                self.assertEqual([it.name for it in functions_in(text, "src/a/b.rt", {})], [name])
+        head = "impl One {\n    fn f()\n        ensures { {\n          x\n        } }\n    {\n"
+        text = head + "        if a {\n        }\n    }\n}\n"
+        (only,) = functions_in(text, "src/a.rt", {"One": ["home"]})
+        self.assertEqual((only.name, text[only.body : only.end]), ("home::One::f", "        if a {\n        }\n    }"))
         cycle = "#[cycle(c)]\n// Why.\nfn f() {\n    f()\n}\n\nfn g() {\n    f()\n}\n"
-        self.assertEqual([(it.name, it.stays) for it in functions_in(cycle, "src/lib.rt")], [("f", True), ("g", False)])
+        self.assertEqual([(it.name, it.stays) for it in functions_in(cycle, "src/lib.rt", {})], [("f", True), ("g", False)])
 
     def test_one_that_is_named(self) -> None:
         for folder in FOLDERS:
