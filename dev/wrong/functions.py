@@ -24,6 +24,8 @@ TYPE = re.compile(r"^(?:pub(?:\([a-z]+\))? )?(?:struct|enum) (\w+)", re.MULTILIN
 OWNER = re.compile(r"^(?:impl\b|(?:pub(?:\([a-z]+\))? )?trait\b)[^{]*", re.MULTILINE)
 CYCLE = re.compile(r"#\[cycle\(\w+\)\]\n(?: *(?:#\[|//).*\n)*\Z")
 OF_TYPE = re.compile(r"impl\s+(\w+)\s*")
+# The functions of a trait are named by the type and the trait, where that has no arguments.
+OF_TRAIT = re.compile(r"impl(?:<.*>)? (\w+) for (\w+)(?:<.*>)?\s*")
 BODY = "unreachable!()"
 PROOF = """use Rattle.{crate}.proofs.{path}.Statement.{{statement}}
 
@@ -35,8 +37,8 @@ ANSWERS = ("Answers.antt", "Invariants.antt")
 
 
 class Function(NamedTuple):
-    """A function: its name below its crate, its file below the crate's folder, and its places there. One of a trait has no name
-    here. It stays in each copy, as does one of a cycle of calls, whose proof is one with those of others."""
+    """A function: its name below its crate, `None` for some of traits, its file below the crate's folder, and its places there.
+    One of a trait stays in each copy, as does one of a cycle of calls, whose proof is one with those of others."""
 
     name: str | None
     stays: bool
@@ -45,15 +47,6 @@ class Function(NamedTuple):
     start: int
     body: int
     end: int
-
-
-def type_of(text: str) -> str | None:
-    """Returns the type whose functions stand at the end of a text, `None` where they are a trait's."""
-    head = OWNER.findall(text)[-1]
-    while (less := re.sub(r"<[^<>]*>", "", head)) != head:
-        head = less
-    found = OF_TYPE.fullmatch(head)
-    return found[1] if found else None
 
 
 def text_of(folder: str, file: str) -> str:
@@ -67,15 +60,25 @@ def module_of(file: str) -> list[str]:
     return [part for part in file.removeprefix("src/").removesuffix(".rt").split("/") if part != "lib"]
 
 
+def owner_of(text: str, file: str, homes: Mapping[str, list[str]]) -> tuple[list[str], bool]:
+    """Returns the names that lead to the owner of the functions at the end of a text, none where they are not known, and whether
+    that is a trait. A type's begin with the module that is its home."""
+    head = ["", *OWNER.findall(text)][-1]
+    if found := OF_TRAIT.fullmatch(head):
+        return [*module_of(file), found[2] + found[1]], True
+    while (less := re.sub(r"<[^<>]*>", "", head)) != head:
+        head = less
+    found = OF_TYPE.fullmatch(head)
+    return ([*homes.get(found[1], module_of(file)), found[1]], False) if found else ([], True)
+
+
 def functions_in(text: str, file: str, homes: Mapping[str, list[str]]) -> Iterator[Function]:
-    """Yields the functions that have a body, in a file of a crate. Those of a type are named by the module that is its home."""
+    """Yields the functions that have a body, in a file of a crate."""
     for match in FUNCTION.finditer(text):
-        parts = [*module_of(file), match[2]]
-        if match[1]:
-            owner = type_of(text[: match.start()])
-            parts = [*homes.get(owner, module_of(file)), owner, match[2]] if owner else []
-        stays = not parts or CYCLE.search(text, 0, match.start()) is not None
-        yield Function("::".join(parts) or None, stays, file, match[1], match.start(), match.start(3), match.end())
+        owner, of_trait = owner_of(text[: match.start()], file, homes) if match[1] else (module_of(file), False)
+        name = "::".join([*owner, match[2]]) if owner or not match[1] else None
+        stays = of_trait or CYCLE.search(text, 0, match.start()) is not None
+        yield Function(name, stays, file, match[1], match.start(), match.start(3), match.end())
 
 
 def functions_of(folder: str) -> list[Function]:

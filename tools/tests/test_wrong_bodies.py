@@ -265,6 +265,7 @@ class WrongBodies(Case):
         for head, name in (
             ("impl<'a, F: Into<B<u8>>> One<'a, F>", "a::b::One::f"),
             ("impl From<u8> for One", None),
+            ("impl<T: Into<u8>> Two for One<T>", "a::b::OneTwo::f"),
             ("impl<T> One<T>\nwhere\n    T: Copy,\n", None),
             ("pub trait One", None),
         ):
