@@ -12,6 +12,7 @@ import importlib.util
 import os
 import re
 import shutil
+import signal
 import sys
 import tempfile
 from collections.abc import Iterable, Iterator
@@ -150,7 +151,11 @@ def check_of(rt: Any, crate: Any, names: set[str], edits: list[Edit]) -> Checked
         lone = copy.copy(crate)
         lone.folder = room
         flags = [*JOBS, "--allow-holes", *(word for name in sorted(names) for word in ("--only", name))]
-        return Checked(rt.checked(lone, {}, flags, None).stdout.split("\n"), places)
+        ran = rt.checked(lone, {}, flags, None)
+        if ran.returncode == -signal.SIGKILL:
+            # (most likely for memory)
+            ran = rt.checked(lone, {}, flags, None)
+        return Checked(ran.stdout.split("\n"), places)
 
 
 class Trial:

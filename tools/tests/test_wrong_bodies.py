@@ -92,7 +92,7 @@ def checked(crate, texts, flags, kept):
     lines = []
     for found in WORDS.finditer(text):
         if "BROKEN" in text:
-            return SimpleNamespace(stdout="src/one.rt:1:1: error[E1]: it is broken")
+            return SimpleNamespace(returncode=1, stdout="src/one.rt:1:1: error[E1]: it is broken")
         at, name = text.count("\\n", 0, found.start()) + 1, f"fn {crate.name}::one::{found[1]}"
         is_out = os.path.exists(f"{crate.folder}/proofs/one/{found[1]}/Proof.antt")
         assert is_out == ("unreachable!()" in found[2]) == (f"one::{found[1]}" not in names)
@@ -100,7 +100,10 @@ def checked(crate, texts, flags, kept):
             lines += [f"note: src/one.rt:{at}:1: it is not proved that it returns (`returns`)", f"{name}: not proved"]
         else:
             lines.append(f"{name}: depends on a hole in `x`")
-    return SimpleNamespace(stdout="\\n".join([*lines, "only=1 holes=1"]))
+    if "KILLED" in text and not os.path.exists(__file__ + ".killed"):
+        open(__file__ + ".killed", "w").close()
+        return SimpleNamespace(returncode=-9, stdout="")
+    return SimpleNamespace(returncode=1, stdout="\\n".join([*lines, "only=1 holes=1"]))
 
 
 if __name__ == "__main__":
@@ -246,6 +249,11 @@ class WrongBodies(Case):
         out = self.trials(further, status=1)
         self.assertEqual(out[:2], ["must-fail one/02.one.f.x.edit: BAD EDIT", "must-fail one/03.one.h.x.edit: refused"])
         self.assertEqual(out[-1], "1 refused, 1 not")
+
+    def test_a_check_that_is_killed_is_made_again(self) -> None:
+        self.write("crates/one/src/one.rt", SOURCE.replace("// Functions", "// KILLED"))
+        self.assertEqual(self.trials({}, "--folder", "must-fail", status=0)[-2], "tried by checks of whole crates: 0")
+        self.assertEqual(len(self.calls()), 3)
 
     def test_a_function_that_is_not_proved_as_it_stands(self) -> None:
         self.write("crates/one/src/one.rt", SOURCE.replace("// Functions", "// SPOILT"))
