@@ -26,7 +26,9 @@ JOBS = ["--jobs", "1"]
 HOLES = re.compile(r"no holes|depends on a hole in ")
 UNPROVED = re.compile(r"not proved|no proof")
 NOTE = re.compile(r"(?:note: )?(?:\./)?(src/\S+\.rt):([0-9]+):[0-9]+: it is not proved ")
-ERROR = re.compile(r"\./proofs/(\S+)/(?:Answers|Invariants)\.antt:[0-9]+:[0-9]+: error: ")
+# An error in the proof of a function. The folder of one that calls itself has a plus before its name; that of a cycle of calls
+# has the cycle's name, and its goals begin with those of its functions.
+ERROR = re.compile(r"\./proofs/(\S*/)?(\+?)(\w+)/(?:Answers|Invariants)\.antt:[0-9]+:[0-9]+: error: (?:`(\w+)-)?")
 # An error that says little of a contract: a proof names what a wrong body took away.
 NAMING = re.compile(r"has no field|is not in scope|has no `|was not admitted")
 WORD = re.compile(r"\w+")
@@ -111,6 +113,13 @@ def groups_of(folder: str, edits: list[Edit]) -> list[list[Edit]]:
     return groups
 
 
+def is_in_proof(error: re.Match[str], name: str) -> bool:
+    """Returns whether an error is one in the proof of a function."""
+    *module, own = name.split("::")
+    folder, plus, last, goal = error.groups(default="")
+    return folder == "".join(f"{part}/" for part in module) and (last == own or plus == "+" and goal == own)
+
+
 class Checked(NamedTuple):
     """The lines of a check of a copy, and the lines of each of its functions."""
 
@@ -130,7 +139,7 @@ class Checked(NamedTuple):
         for line in self.said:
             if (match := NOTE.match(line)) and match[1] == file and int(match[2]) in lines:
                 return line
-            if (match := ERROR.match(line)) and match[1] == name.replace("::", "/") and not NAMING.search(line):
+            if (match := ERROR.match(line)) and is_in_proof(match, name) and not NAMING.search(line):
                 return line
         return None
 

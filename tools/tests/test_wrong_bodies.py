@@ -7,6 +7,7 @@ import unittest
 
 from support import TOOLS, Case
 from wrong.functions import functions_in, take_out
+from wrong.trials import Checked
 
 CRATES = os.path.join(os.path.dirname(TOOLS), "crates")
 FOLDERS = ("must-fail", "must-fail-further")
@@ -286,6 +287,25 @@ class WrongBodies(Case):
         self.assertEqual((only.name, text[only.body : only.end]), ("home::One::f", "        if a {\n        }\n    }"))
         cycle = "#[cycle(c)]\n// Why.\nfn f() {\n    f()\n}\n\nfn g() {\n    f()\n}\n"
         self.assertEqual([(it.name, it.stays) for it in functions_in(cycle, "src/lib.rt", {})], [("f", True), ("g", False)])
+
+    def test_errors_in_proofs(self) -> None:
+        places = {"one::f": ("src/one.rt", range(9))}
+        for folder, goal, is_refused in (
+            ("one/f", "returns", True),
+            ("one/+f", "loop-end", True),
+            ("one/+ring", "f-loop-end", True),
+            ("one/+ring", "f_two-loop-end", False),
+            ("one/g", "returns", False),
+            ("f", "returns", False),
+        ):
+            with self.subTest(folder=folder, goal=goal):
+                line = f"./proofs/{folder}/Answers.antt:3:1: error: `{goal}`: the types differ"
+                said = [line, "fn c::one::f: not proved; it stands on a proof"]
+                self.assertEqual(Checked(said, places).refusal("c", "one::f"), line if is_refused else None)
+        said = ["./proofs/one/f/Answers.antt:3:1: error: `returns`: the record has no field `x`", "fn c::one::f: not proved"]
+        self.assertIsNone(Checked(said, places).refusal("c", "one::f"))
+        said = ["note: src/one.rt:3:1: it is not proved that it returns", "fn c::one::f: could not tell"]
+        self.assertIsNone(Checked(said, places).refusal("c", "one::f"))
 
     def test_one_that_is_named(self) -> None:
         for folder in FOLDERS:
