@@ -79,11 +79,13 @@ class Gate(Case):
         """Writes the stub of `rt`, which has to be called as `rt ci`."""
         self.runnable("bin/rt", f'#!/bin/sh\n[ "$*" = ci ] || exit 9\n{text}')
 
+    together = True
+
     def start(self, **more: str) -> subprocess.Popen[str]:
         """Starts the gate on the test's folder, with more variables of its environment."""
         environment = {name: value for name, value in os.environ.items() if name not in ("SUDO_AUDIT", "SUDO_REVIEW", "RT_JOBS")}
         environment |= {"PATH": f"{self.path('bin')}:/usr/bin:/bin", **more}
-        words = [os.path.join(DEV, "gate"), "--repository", self.folder]
+        words = [os.path.join(DEV, "gate"), "--repository", self.folder, *(["--together"] if self.together else [])]
         return subprocess.Popen(
             words, env=environment, text=True, stdout=subprocess.PIPE, stderr=subprocess.STDOUT
         )
@@ -105,11 +107,11 @@ class Gate(Case):
         self.rt(self.build() + "".join(f"echo {line}\n" for line in [*said, "40 passed, 0 failed"]))
         lines = self.gate(0)
         self.assertEqual(lines[:3], said)
-        self.assertEqual(lines[3:5], [f"gate: the tests of the tools use crates/{name}/out/{name}" for name in PROGRAMS])
-        self.assertEqual(lines[5], "prepared")
-        self.assertEqual(lines[-5], "skipped: test_samples.Samples.test_is_skipped: no moon")
-        self.assertEqual(lines[-4], "gate: proved after minutes: low 0, low (tests) 0")
-        self.assertEqual(lines[-3], "gate: wrong bodies: 2 refused, 0 not")
+        self.assertEqual(lines[3], "gate: wrong bodies: 2 refused, 0 not")
+        self.assertEqual(lines[4:6], [f"gate: the tests of the tools use crates/{name}/out/{name}" for name in PROGRAMS])
+        self.assertEqual(lines[6], "prepared")
+        self.assertEqual(lines[-4], "skipped: test_samples.Samples.test_is_skipped: no moon")
+        self.assertEqual(lines[-3], "gate: proved after minutes: low 0, low (tests) 0")
         took = r"[0-9.]+ min \([0-9.]+ min of processor time\)"
         parts = f"rt ci took {took}, wrong bodies {took}, the tests of the tools {took}, and all of it {took}"
         self.assertRegex(lines[-2], f"^gate: {parts}, by [0-9]+ checks at a time$")
@@ -133,8 +135,8 @@ class Gate(Case):
     def test_one_program_of_two(self) -> None:
         self.rt(f"{self.build('sudo_audit')}echo 3 passed, 0 failed\n")
         lines = self.gate(1)
-        self.assertTrue(lines[0].endswith("/sudo_audit"), lines[0])
-        self.assertTrue(lines[1].endswith("/sudo_review; tests that find no other one are skipped"), lines[1])
+        self.assertTrue(lines[1].endswith("/sudo_audit"), lines[1])
+        self.assertTrue(lines[2].endswith("/sudo_review; tests that find no other one are skipped"), lines[2])
         self.assertEqual(lines[-1], "6 passed, 1 failed")
 
     def test_no_last_line(self) -> None:
@@ -152,6 +154,16 @@ class Gate(Case):
         lines = self.gate(1)
         self.assertIn("gate: rt ci ended with status 7", lines)
         self.assertEqual(lines[-1], "5 passed, 1 failed")
+
+    def test_rt_runs_on_the_tree(self) -> None:
+        self.together = False
+        self.write("crates/sudo_audit/must-fail/01.one.f.x.edit", "")
+        os.unlink(self.path("dev/wrong-bodies"))
+        self.rt(f"{self.build()}ls crates/sudo_audit; echo 3 passed, 0 failed\n")
+        lines = self.gate(0)
+        self.assertEqual(lines[:3], ["must-fail", "out", "src"])
+        self.assertFalse([line for line in lines if "wrong bodies" in line])
+        self.assertEqual(lines[-1], "5 passed, 0 failed")
 
     def test_rt_runs_on_a_copy(self) -> None:
         for folder in ("must-fail", "must-fail-further"):
