@@ -1,4 +1,4 @@
-"""Tests of `dev/gate`, with a stub in the place of `rt` and tests of its own in the place of the tools'."""
+"""Tests of `dev/gate`, with stubs for `rt` and `dev/wrong-bodies`, and tests of its own in the place of the tools'."""
 
 import os
 import subprocess
@@ -61,6 +61,13 @@ class Gate(Case):
         super().setUp()
         self.runnable("tools/tests/prepare", "#!/bin/sh\necho prepared\n")
         self.write("tools/tests/test_samples.py", SAMPLES)
+        for name in PROGRAMS:
+            self.write(f"crates/{name}/src/main.rt", "")
+        self.bodies("echo 2 refused, 0 not")
+
+    def bodies(self, text: str) -> None:
+        """Writes the stub of `dev/wrong-bodies`, which has to find the libraries of `rt ci`."""
+        self.runnable("dev/wrong-bodies", f'#!/bin/sh\n[ -d "$4/.git" ] || exit 9\n{text}\n')
 
     def runnable(self, name: str, text: str) -> str:
         """Writes a file that can be run, and returns its path."""
@@ -72,11 +79,13 @@ class Gate(Case):
         """Writes the stub of `rt`, which has to be called as `rt ci`."""
         self.runnable("bin/rt", f'#!/bin/sh\n[ "$*" = ci ] || exit 9\n{text}')
 
+    together = True
+
     def start(self, **more: str) -> subprocess.Popen[str]:
         """Starts the gate on the test's folder, with more variables of its environment."""
         environment = {name: value for name, value in os.environ.items() if name not in ("SUDO_AUDIT", "SUDO_REVIEW", "RT_JOBS")}
         environment |= {"PATH": f"{self.path('bin')}:/usr/bin:/bin", **more}
-        words = [os.path.join(DEV, "gate"), "--repository", self.folder]
+        words = [os.path.join(DEV, "gate"), "--repository", self.folder, *(["--together"] if self.together else [])]
         return subprocess.Popen(
             words, env=environment, text=True, stdout=subprocess.PIPE, stderr=subprocess.STDOUT
         )
@@ -90,7 +99,7 @@ class Gate(Case):
 
     def build(self, *programs: str) -> str:
         """Returns the commands that build programs where `rt ci` does, all unless some are named."""
-        folders = {name: self.path("crates", name, "out") for name in programs or PROGRAMS}
+        folders = {name: f"crates/{name}/out" for name in programs or PROGRAMS}
         return "".join(f"mkdir -p {out} && cp {self.path('bin', 'rt')} {out}/{name}\n" for name, out in folders.items())
 
     def test_the_sum_is_the_last_line(self) -> None:
@@ -98,12 +107,15 @@ class Gate(Case):
         self.rt(self.build() + "".join(f"echo {line}\n" for line in [*said, "40 passed, 0 failed"]))
         lines = self.gate(0)
         self.assertEqual(lines[:3], said)
-        self.assertEqual(lines[3:5], [f"gate: the tests of the tools use crates/{name}/out/{name}" for name in PROGRAMS])
-        self.assertEqual(lines[5], "prepared")
+        self.assertEqual(lines[3], "gate: wrong bodies: 2 refused, 0 not")
+        self.assertEqual(lines[4:6], [f"gate: the tests of the tools use crates/{name}/out/{name}" for name in PROGRAMS])
+        self.assertEqual(lines[6], "prepared")
         self.assertEqual(lines[-4], "skipped: test_samples.Samples.test_is_skipped: no moon")
         self.assertEqual(lines[-3], "gate: proved after minutes: low 0, low (tests) 0")
-        self.assertRegex(lines[-2], r"^gate: rt ci took [0-9.]+ min \([0-9.]+ min of processor time\), and all of it [0-9.]+ min")
-        self.assertEqual(lines[-1], "42 passed, 0 failed")
+        took = r"[0-9.]+ min \([0-9.]+ min of processor time\)"
+        parts = f"rt ci took {took}, wrong bodies {took}, the tests of the tools {took}, and all of it {took}"
+        self.assertRegex(lines[-2], f"^gate: {parts}, by [0-9]+ checks at a time$")
+        self.assertEqual(lines[-1], "44 passed, 0 failed")
         self.assertNotIn("40 passed, 0 failed", lines)
 
     def test_each_failing_test_counts_once(self) -> None:
@@ -123,9 +135,9 @@ class Gate(Case):
     def test_one_program_of_two(self) -> None:
         self.rt(f"{self.build('sudo_audit')}echo 3 passed, 0 failed\n")
         lines = self.gate(1)
-        self.assertTrue(lines[0].endswith("/sudo_audit"), lines[0])
-        self.assertTrue(lines[1].endswith("/sudo_review; tests that find no other one are skipped"), lines[1])
-        self.assertEqual(lines[-1], "4 passed, 1 failed")
+        self.assertTrue(lines[1].endswith("/sudo_audit"), lines[1])
+        self.assertTrue(lines[2].endswith("/sudo_review; tests that find no other one are skipped"), lines[2])
+        self.assertEqual(lines[-1], "6 passed, 1 failed")
 
     def test_no_last_line(self) -> None:
         for text in ("echo stopped; exit 2", "printf stopped", "echo 3 passed, 0 failed; echo stopped"):
@@ -143,6 +155,60 @@ class Gate(Case):
         self.assertIn("gate: rt ci ended with status 7", lines)
         self.assertEqual(lines[-1], "5 passed, 1 failed")
 
+    def test_rt_runs_on_the_tree(self) -> None:
+        self.together = False
+        self.write("crates/sudo_audit/must-fail/01.one.f.x.edit", "")
+        os.unlink(self.path("dev/wrong-bodies"))
+        self.rt(f"{self.build()}ls crates/sudo_audit; echo 3 passed, 0 failed\n")
+        lines = self.gate(0)
+        self.assertEqual(lines[:3], ["must-fail", "out", "src"])
+        self.assertFalse([line for line in lines if "wrong bodies" in line])
+        self.assertEqual(lines[-1], "5 passed, 0 failed")
+
+    def test_rt_runs_on_a_copy(self) -> None:
+        for folder in ("must-fail", "must-fail-further"):
+            self.write(f"crates/sudo_audit/{folder}/01.one.f.x.edit", "")
+        for name in ("sudo_audit", "rlib/kept"):
+            self.write(f"crates/sudo_audit/out/{name}", "")
+        self.rt("ls -d .git; ls crates/sudo_audit; mkdir -p crates/sudo_audit/out/rlib; echo 3 passed, 1 failed; exit 1\n")
+        lines = self.gate(1)
+        self.assertEqual(lines[:2], [".git", "src"])
+        self.assertTrue(lines[3].startswith("gate: rt ci left no program crates/sudo_audit/out/sudo_audit"), lines[3])
+        self.assertEqual(sorted(os.listdir(self.path("crates/sudo_audit"))), ["must-fail", "must-fail-further", "out", "src"])
+        self.assertEqual(os.listdir(self.path("crates/sudo_audit/out/rlib")), ["kept"])
+
+    def test_a_tree_that_cannot_be_copied(self) -> None:
+        os.mkfifo(self.path("pipe"))
+        lines = self.gate(1)
+        self.assertTrue(lines[0].startswith("gate: the tree cannot be copied: "), lines[0])
+        self.assertEqual(lines[1:], ["0 passed, 1 failed"])
+
+    def test_wrong_bodies(self) -> None:
+        self.rt(f"{self.build()}echo 3 passed, 0 failed\n")
+        self.bodies('echo "${3#-}" "$7 $8"; echo 5 refused, 2 not; exit 1')
+        lines = self.gate(1, RT_JOBS="7")
+        self.assertEqual(lines[0], "-libraries --jobs 7")
+        self.assertIn("gate: wrong bodies: 5 refused, 2 not", lines)
+        self.assertEqual(lines[-1], "10 passed, 2 failed")
+
+    def test_wrong_bodies_that_say_nothing(self) -> None:
+        self.rt(f"{self.build()}echo 3 passed, 0 failed\n")
+        self.bodies("echo stopped; exit 5")
+        lines = self.gate(1)
+        self.assertEqual(lines[0], "stopped")
+        self.assertEqual(lines[1], "gate: dev/wrong-bodies ended with status 5, and its last line is not 'N refused, M not'")
+        self.assertEqual(lines[-1], "5 passed, 1 failed")
+        os.unlink(self.path("dev/wrong-bodies"))
+        lines = self.gate(1)
+        self.assertEqual(lines[0], "gate: dev/wrong-bodies: No such file or directory")
+        self.assertEqual(lines[-1], "5 passed, 1 failed")
+
+    def test_wrong_bodies_behind_a_failure(self) -> None:
+        self.rt(f"{self.build()}echo 3 passed, 1 failed; exit 1\n")
+        lines = self.gate(1)
+        self.assertEqual(lines[0], "gate: no wrong body is tried, since rt ci failed")
+        self.assertEqual(lines[-1], "5 passed, 1 failed")
+
     def test_checks_at_once(self) -> None:
         self.rt(f'{self.build()}echo "$RT_JOBS"; echo 3 passed, 0 failed\n')
         self.assertIn(int(self.gate(0)[0]), range(1, len(os.sched_getaffinity(0)) + 1))
@@ -153,20 +219,21 @@ class Gate(Case):
     def test_no_tests(self) -> None:
         os.unlink(self.path("tools/tests/test_samples.py"))
         self.rt("echo 3 passed, 0 failed")
-        self.assertEqual(self.gate(1)[-1], "3 passed, 1 failed")
+        self.assertEqual(self.gate(1)[-1], "5 passed, 1 failed")
         self.write("tools/tests/test_leaving.py", "raise SystemExit\n")
-        self.assertEqual(self.gate(1)[-1], "3 passed, 1 failed")
+        self.assertEqual(self.gate(1)[-1], "5 passed, 1 failed")
 
     def test_no_rt(self) -> None:
         self.assertEqual(self.gate(1), ["gate: rt: No such file or directory", "0 passed, 1 failed"])
 
     def test_lines_are_passed_on_as_they_come(self) -> None:
-        self.rt("echo first; echo second; read -r line <$0.pipe; echo 1 passed, 0 failed\n")
-        os.mkfifo(self.path("bin", "rt.pipe"))
+        self.rt(f"echo first; echo second; read -r line <{self.path('.git', 'pipe')}; echo 1 passed, 0 failed\n")
+        os.mkdir(self.path(".git"))
+        os.mkfifo(self.path(".git", "pipe"))
         with self.start() as child:
             assert child.stdout is not None
             self.assertEqual(child.stdout.readline(), "first\n")
-            with open(self.path("bin", "rt.pipe"), "w", encoding="utf-8"):
+            with open(self.path(".git", "pipe"), "w", encoding="utf-8"):
                 pass
             child.communicate()
 
@@ -199,7 +266,7 @@ class Gate(Case):
         self.rt(f"{self.build()}echo 3 passed, 0 failed\n")
         lines = self.gate(1)
         self.assertIn("gate: the process of these tests ended early", lines)
-        self.assertEqual(lines[-1], "5 passed, 1 failed")
+        self.assertEqual(lines[-1], "7 passed, 1 failed")
 
 
 if __name__ == "__main__":

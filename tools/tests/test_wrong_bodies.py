@@ -6,6 +6,8 @@ import re
 import unittest
 
 from support import TOOLS, Case
+from wrong.functions import functions_in, take_out
+from wrong.trials import Checked
 
 CRATES = os.path.join(os.path.dirname(TOOLS), "crates")
 FOLDERS = ("must-fail", "must-fail-further")
@@ -26,17 +28,125 @@ WITHOUT = {
     ("sudo_policy", "lists_are_written"),
     ("audit_commands", "run_program"),
 }
-RT = """#!/bin/sh
-echo "$*" >>"$0.calls"
-for crate in $(ls crates); do
-  for edit in $(ls crates/$crate/must-fail 2>/dev/null); do
-    echo "rt: must-fail $crate/$edit: $(cat crates/$crate/must-fail/$edit)"
-  done
-done
-exit {status}
+# The stub refuses a body with the word WRONG, one with SLY only in a check of the whole crate, and cannot read one with BROKEN.
+RT = '''#!/usr/bin/python3
+"""A stub of rt: a command, and the module of its checks."""
+
+import os
+import re
+import sys
+from types import SimpleNamespace
+
+REFUSED = "refused"
+WORDS = re.compile(r"^fn (\\w+).*?\\{\\n(.*?)^\\}", re.MULTILINE | re.DOTALL)
+
+
+def note(text):
+    with open(__file__ + ".calls", "a", encoding="utf-8") as it:
+        it.write(text + "\\n")
+
+
+class Crate:
+    def __init__(self, root, line):
+        self.name, self.libraries = line.split(":")[0], line.split(":")[1].split()
+        self.folder, self.root = f"{root}/crates/{self.name}", root
+        self.rlib = f"{self.folder}/out/rlib/{self.name}.rlib"
+
+    def below(self):
+        return [it for it in rtlib.crates_below(self.root) if it.name in self.libraries]
+
+    def is_built(self):
+        return os.path.exists(self.rlib)
+
+
+def crates_below(root):
+    with open(f"{root}/crates.txt", encoding="utf-8") as it:
+        return [Crate(root, line) for line in it.read().splitlines()]
+
+
+rtlib = SimpleNamespace(PARTS=("src", "proofs"), guarded=lambda: [], crates_below=crates_below)
+
+
+def read_edit(path, folder):
+    with open(path, encoding="utf-8") as it:
+        file, old, new = (line.split(": ", 1)[1] for line in it.read().splitlines())
+    with open(f"{folder}/{file}", encoding="utf-8") as it:
+        text = it.read()
+    return ({file: text.replace(old, new)}, None) if text.count(old) == 1 else (None, "it is not there")
+
+
+def must_fail(crate, path, flags):
+    name = os.path.basename(path)
+    note(f"whole {crate.name} {name}")
+    text = "".join((read_edit(path, crate.folder)[0] or {"": "BROKEN"}).values())
+    for word, kind, said in (("BROKEN", "bad", "BAD EDIT"), ("WRONG", REFUSED, "refused"), ("SLY", REFUSED, "refused")):
+        if word in text:
+            return kind, f"must-fail {crate.name}/{name}: {said}"
+    return "missed", f"must-fail {crate.name}/{name}: NOT REFUSED: the crate is still proved with this edit"
+
+
+def checked(crate, texts, flags, kept):
+    with open(f"{crate.folder}/src/one.rt", encoding="utf-8") as it:
+        text = it.read()
+    names = [word for at, word in enumerate(flags) if flags[at - 1] == "--only"]
+    note(f"checked {crate.name} {' '.join(names)}: {' '.join(sorted(set(re.findall('[A-Z]{3,}', text))))}")
+    lines = []
+    for found in WORDS.finditer(text):
+        if "BROKEN" in text:
+            return SimpleNamespace(returncode=1, stdout="src/one.rt:1:1: error[E1]: it is broken")
+        at, name = text.count("\\n", 0, found.start()) + 1, f"fn {crate.name}::one::{found[1]}"
+        is_out = os.path.exists(f"{crate.folder}/proofs/one/{found[1]}/Proof.antt")
+        assert is_out == ("unreachable!()" in found[2]) == (f"one::{found[1]}" not in names)
+        if "WRONG" in found[2] or "SPOILT" in text:
+            lines += [f"note: src/one.rt:{at}:1: it is not proved that it returns (`returns`)", f"{name}: not proved"]
+        else:
+            lines.append(f"{name}: depends on a hole in `x`")
+    if "KILLED" in text and not os.path.exists(__file__ + ".killed"):
+        open(__file__ + ".killed", "w").close()
+        return SimpleNamespace(returncode=-9, stdout="")
+    return SimpleNamespace(returncode=1, stdout="\\n".join([*lines, "only=1 holes=1"]))
+
+
+if __name__ == "__main__":
+    library = os.path.basename(os.getcwd())
+    note(f"{' '.join(sys.argv[1:])} {library}")
+    if library != "unbuilt":
+        os.makedirs(f"out/rlib/{library}.rlib")
+    sys.exit(library == "unbuilt")
+'''
+SOURCE = """// Functions of a crate.
+fn f(n: u8) -> u8
+    ensures { result ≡ n }
+{
+    let first = n;
+    first
+}
+
+/// Returns what `f` does.
+fn g(n: u8) -> u8 {
+    let second = f(n);
+    second
+}
+
+fn h(n: u8) -> u8 {
+    let third = n;
+    third
+}
 """
-REFUSED = "refused, as it must be: src/one.rt:3:1: it is not proved (`returns`)\n"
-MISSED = "NOT REFUSED: the crate is still proved with this edit\n"
+PROOF = """use Rattle.one.proofs.one.h.Statement.{statement}
+
+pub h_spec : {M : Type 1} → statement M
+h_spec = ?
+"""
+
+
+def edit(old: str, new: str) -> str:
+    """Returns the text of a wrong body."""
+    return f"file: src/one.rt\nold: {old}\nnew: {new}\n"
+
+
+IN_F, IN_G = edit("let first = n", "let first = WRONG(n)"), edit("let second = f(n)", "let second = WRONG(f(n))")
+IN_H = edit("let third = n", "let third = WRONG(n)")
 
 
 def trouble(edit: str) -> str | None:
@@ -66,62 +176,173 @@ def trouble(edit: str) -> str | None:
 
 
 class WrongBodies(Case):
-    def trials(self, further: dict[str, str], *words: str, status: int, ends: int = 0) -> tuple[str, str]:
-        """Runs the command over crates with further wrong bodies, given by path and by what the stub says of each."""
-        self.write("crates.txt", "one:\ntwo:\n")
-        self.write("HANDLES", "")
-        self.write("crates/one/must-fail/01.one.f.always_tried.edit", MISSED)
-        self.write("crates/two/out/built", "")
-        for path, said in further.items():
-            self.write(f"crates/{path}", said)
-        os.chmod(self.write("rt", RT.format(status=ends)), 0o755)
-        given = ("--repository", self.folder, "--rt", self.path("rt"), *words)
-        return self.run_dev("wrong-bodies", *given, status=status)
+    def setUp(self) -> None:
+        super().setUp()
+        os.chmod(self.write("rt", RT), 0o755)
+        self.write("crates.txt", "base:\none: base\ntwo: base\n")
+        self.write("crates/base/out/rlib/base.rlib/format", "")
+        for crate in ("base", "one", "two"):
+            self.write(f"crates/{crate}/src/one.rt", SOURCE)
+        self.write("crates/one/must-fail/01.one.f.always_tried.edit", IN_F)
 
-    def test_all_are_refused(self) -> None:
-        further = {
-            "one/must-fail-further/02.one.f.adds_one.edit": REFUSED,
-            "two/must-fail-further/01.two.g.loses_one.edit": REFUSED,
-        }
-        out, err = self.trials(further, status=0)
+    def trials(self, further: dict[str, str], *words: str, status: int) -> list[str]:
+        """Runs the command over crates with further wrong bodies, given by path. Returns the lines that it prints."""
+        for path, text in further.items():
+            self.write(f"crates/{path}", text)
+        given = ("--repository", self.folder, "--rt", self.path("rt"), *words)
+        out, err = self.run_dev("wrong-bodies", *given, status=status)
         self.assertEqual(err, "")
+        return out.splitlines()
+
+    def calls(self) -> list[str]:
+        """Returns what was asked of the stub, in order of the text."""
+        calls = sorted(self.rows("rt.calls"))
+        os.unlink(self.path("rt.calls"))
+        return calls
+
+    def test_all_are_refused_together(self) -> None:
+        further = {"one/must-fail-further/02.one.f.x.edit": IN_F, "one/must-fail-further/03.one.h.x.edit": IN_H}
+        further["two/must-fail-further/01.one.g.x.edit"] = IN_G
+        said = "refused, as it must be: note: src/one.rt:{}:1: it is not proved that it returns (`returns`)"
         self.assertEqual(
-            out.splitlines(),
+            sorted(self.trials(further, status=0)),
             [
-                f"rt: must-fail one/02.one.f.adds_one.edit: {REFUSED.strip()}",
-                f"rt: must-fail two/01.two.g.loses_one.edit: {REFUSED.strip()}",
-                "2 refused, 0 not",
+                "3 refused, 0 not",
+                f"must-fail one/02.one.f.x.edit: {said.format(2)}",
+                f"must-fail one/03.one.h.x.edit: {said.format(14)}",
+                f"must-fail two/01.one.g.x.edit: {said.format(9)}",
+                "tried by checks of whole crates: 0",
             ],
         )
-        self.assertEqual(self.rows("rt.calls"), ["must-fail one two"])
-        self.assertTrue(os.path.exists(self.path("crates/one/must-fail/01.one.f.always_tried.edit")))
+        together = ["checked one one::f one::h: ", "checked one one::f one::h: WRONG"]
+        self.assertEqual(self.calls(), [*together, "checked two one::g: ", "checked two one::g: WRONG"])
 
-    def test_one_is_not_refused(self) -> None:
-        further = {"one/must-fail-further/02.one.f.adds_one.edit": MISSED, "one/must-fail-further/03.one.f.x.edit": REFUSED}
-        self.assertIn("\n1 refused, 1 not\n", self.trials(further, "one", status=1, ends=1)[0])
+    def test_the_folder_that_make_test_tries(self) -> None:
+        out = self.trials({"two/must-fail-further/01.one.g.x.edit": IN_G}, "--folder", "must-fail", "--jobs", "2", status=0)
+        self.assertEqual(out[-1], "1 refused, 0 not")
+        self.assertEqual(self.calls(), ["checked one one::f: ", "checked one one::f: WRONG"])
+
+    def test_functions_that_call_each_other_are_apart(self) -> None:
+        further = {"one/must-fail-further/02.one.f.x.edit": IN_F, "one/must-fail-further/03.one.g.x.edit": IN_G}
+        self.assertEqual(self.trials(further, status=0)[-2:], ["tried by checks of whole crates: 0", "2 refused, 0 not"])
+        both = "checked one one::f one::g: "
+        self.assertEqual(self.calls(), [both, "checked one one::f: WRONG", "checked one one::g: WRONG"])
+
+    def test_those_that_a_whole_check_tries(self) -> None:
+        further = {
+            "one/must-fail-further/02.one.f.sly.edit": IN_F.replace("WRONG", "SLY"),
+            "one/must-fail-further/03.one.h.same.edit": IN_H.replace("WRONG", "id"),
+            "one/must-fail-further/04.one.no_function.edit": edit("// Functions of a crate.", "// WRONG"),
+            "one/must-fail-further/05.one.g.not_there.edit": edit("let fourth = n", "n"),
+            "one/must-fail-further/06.one.g.contract.edit": edit("result ≡ n", "WRONG"),
+        }
+        out = self.trials(further, status=1)
+        self.assertIn("must-fail one/03.one.h.same.edit: NOT REFUSED: the crate is still proved with this edit", out)
+        self.assertIn("must-fail one/05.one.g.not_there.edit: BAD EDIT", out)
+        self.assertEqual(out[-2:], ["tried by checks of whole crates: 5", "3 refused, 2 not"])
+        together = ["checked one one::f one::h: ", "checked one one::f one::h: SLY"]
+        whole = [f"whole one {os.path.basename(path)}" for path in further]
+        self.assertEqual(self.calls(), [*together, *whole])
+
+    def test_one_that_cannot_be_compiled(self) -> None:
+        further = {"one/must-fail-further/02.one.f.x.edit": IN_F.replace("WRONG", "BROKEN")}
+        further["one/must-fail-further/03.one.h.x.edit"] = IN_H
+        out = self.trials(further, status=1)
+        self.assertEqual(out[:2], ["must-fail one/02.one.f.x.edit: BAD EDIT", "must-fail one/03.one.h.x.edit: refused"])
+        self.assertEqual(out[-1], "1 refused, 1 not")
+
+    def test_a_check_that_is_killed_is_made_again(self) -> None:
+        self.write("crates/one/src/one.rt", SOURCE.replace("// Functions", "// KILLED"))
+        self.assertEqual(self.trials({}, "--folder", "must-fail", status=0)[-2], "tried by checks of whole crates: 0")
+        self.assertEqual(len(self.calls()), 3)
+
+    def test_a_function_that_is_not_proved_as_it_stands(self) -> None:
+        self.write("crates/one/src/one.rt", SOURCE.replace("// Functions", "// SPOILT"))
+        self.assertEqual(self.trials({}, "--folder", "must-fail", status=0)[-2], "tried by checks of whole crates: 1")
+
+    def test_what_is_taken_out(self) -> None:
+        for file in ("Answers.antt", "Invariants.antt"):
+            self.write(f"crates/one/proofs/one/h/{file}", "")
+        take_out(self.path("crates/one"), "one", {"one::f"})
+        left = SOURCE.replace("let third = n;\n    third", "unreachable!()")
+        self.assertEqual(self.read("crates/one/src/one.rt"), left.replace("let second = f(n);\n    second", "unreachable!()"))
+        self.assertEqual(os.listdir(self.path("crates/one/proofs/one/h")), ["Proof.antt"])
+        self.assertEqual(self.read("crates/one/proofs/one/h/Proof.antt"), PROOF)
+        self.assertEqual(sorted(os.listdir(self.path("crates/one/proofs/one"))), ["g", "h"])
+
+    def test_names_of_functions(self) -> None:
+        for head, name in (
+            ("impl<'a, F: Into<B<u8>>> One<'a, F>", "a::b::One::f"),
+            ("impl From<u8> for One", None),
+            ("impl<T: Into<u8>> Two for One<T>", "a::b::OneTwo::f"),
+            ("impl<T> One<T>\nwhere\n    T: Copy,\n", None),
+            ("pub trait One", None),
+        ):
+            with self.subTest(head):
+                text = f"{head} {{\n    fn law() {{}}\n\n    fn none();\n\n    fn f() {{\n        g()\n    }}\n}}\n"
+                self.assertEqual([it.name for it in functions_in(text, "src/a/b.rt", {})], [name])
+        head = "impl One {\n    fn f()\n        ensures { {\n          x\n        } }\n    {\n"
+        text = head + "        if a {\n        }\n    }\n}\n"
+        (only,) = functions_in(text, "src/a.rt", {"One": ["home"]})
+        self.assertEqual((only.name, text[only.body : only.end]), ("home::One::f", "        if a {\n        }\n    }"))
+        cycle = "#[cycle(c)]\n// Why.\nfn f() {\n    f()\n}\n\nfn g() {\n    f()\n}\n"
+        self.assertEqual([(it.name, it.stays) for it in functions_in(cycle, "src/lib.rt", {})], [("f", True), ("g", False)])
+
+    def test_errors_in_proofs(self) -> None:
+        places = {"one::f": ("src/one.rt", range(9))}
+        for folder, goal, is_refused in (
+            ("one/f", "returns", True),
+            ("one/+f", "loop-end", True),
+            ("one/+ring", "f-loop-end", True),
+            ("one/+ring", "f_two-loop-end", False),
+            ("one/g", "returns", False),
+            ("f", "returns", False),
+        ):
+            with self.subTest(folder=folder, goal=goal):
+                line = f"./proofs/{folder}/Answers.antt:3:1: error: `{goal}`: the types differ"
+                said = [line, "fn c::one::f: not proved; it stands on a proof"]
+                self.assertEqual(Checked(said, places).refusal("c", "one::f"), line if is_refused else None)
+        said = ["./proofs/one/f/Answers.antt:3:1: error: `returns`: the record has no field `x`", "fn c::one::f: not proved"]
+        self.assertIsNone(Checked(said, places).refusal("c", "one::f"))
+        said = ["note: src/one.rt:3:1: it is not proved that it returns", "fn c::one::f: could not tell"]
+        self.assertIsNone(Checked(said, places).refusal("c", "one::f"))
 
     def test_one_that_is_named(self) -> None:
         for folder in FOLDERS:
-            named = f"one/{folder}/04.one.f.is_named.edit"
+            named = f"one/{folder}/04.one.h.is_named.edit"
             path = self.path("crates", named)
             with self.subTest(folder):
-                out = self.trials({named: REFUSED, "one/must-fail-further/02.one.f.x.edit": MISSED}, path, status=0)[0]
-                self.assertEqual(out, f"rt: must-fail one/04.one.f.is_named.edit: {REFUSED}1 refused, 0 not\n")
+                out = self.trials({named: IN_H, "one/must-fail-further/02.one.f.x.edit": IN_F}, path, status=0)
+                self.assertEqual(out[-1], "1 refused, 0 not")
+                self.assertEqual(self.calls(), ["checked one one::h: ", "checked one one::h: WRONG"])
             os.unlink(path)
 
-    def test_rt_ends_early(self) -> None:
-        further = {"one/must-fail-further/02.one.f.adds_one.edit": REFUSED}
-        for ends in (1, 2):
-            err = self.trials(further, "one", status=5, ends=ends)[1]
-            self.assertEqual(err, f"wrong-bodies: {self.path('rt')} must-fail ended with status {ends}\n")
-        err = self.run_dev("wrong-bodies", "sudo_text", "--rt", self.path("none"), status=5)[1]
-        self.assertIn("none: No such file or directory", err)
+    def test_libraries(self) -> None:
+        os.unlink(self.path("crates/base/out/rlib/base.rlib/format"))
+        os.removedirs(self.path("crates/base/out/rlib/base.rlib"))
+        given = ("wrong-bodies", "--repository", self.folder, "--rt", self.path("rt"), "--folder", "must-fail")
+        err = self.run_dev(*given, "--libraries", self.folder, status=5)[1]
+        self.assertEqual(err, f"wrong-bodies: {self.path('crates/base/out/rlib/base.rlib')}: no such library\n")
+        self.assertEqual(self.run_dev(*given)[0].splitlines()[-1], "1 refused, 0 not")
+        self.assertIn("lib base", self.calls())
+        self.run_dev(*given, "--libraries", self.folder)
+        self.assertEqual(self.calls(), ["checked one one::f: ", "checked one one::f: WRONG"])
+        self.write("crates.txt", "unbuilt:\none: unbuilt\n")
+        self.write("crates/unbuilt/src/one.rt", SOURCE)
+        err = self.run_dev(*given, status=5)[1]
+        self.assertEqual(err, f"wrong-bodies: {self.path('rt')} lib did not build unbuilt\n")
 
     def test_words(self) -> None:
         err = self.run_dev("wrong-bodies", "sudo_audit", status=2)[1]
         self.assertIn("there is no folder crates/sudo_audit/must-fail-further", err)
         for path in ("gone.edit", self.write("crates/one/src/01.one.f.edit", "")):
             self.assertIn(f"{path}: not a file crates/CRATE/must-fail/", self.run_dev("wrong-bodies", path, status=2)[1])
+        self.assertIn("expected a number from 1 on", self.run_dev("wrong-bodies", "--jobs", "0", status=2)[1])
+        err = self.run_dev("wrong-bodies", "sudo_text", "--rt", self.path("none"), status=5)[1]
+        self.assertEqual(err, f"wrong-bodies: {self.path('none')}: no such command\n")
+        path = self.write("crates/one/must-fail-further/README", "")
+        err = self.run_dev("wrong-bodies", "one", "--repository", self.folder, status=2)[1]
+        self.assertEqual(err, f"wrong-bodies: {path}: not a file must-fail-further/*.edit\n")
 
 
 def crates_with_contracts() -> list[str]:
