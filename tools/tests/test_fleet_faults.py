@@ -121,10 +121,10 @@ class Schedulers(FleetCase):
         self.hosts(6)
         self.write("fleet/users.csv", "user,uid,groups\nroot,0,root:0\n" + "# a long file\n" * 1000)
         self.scheduler(full=True, workers=1)
-        running = self.start("--scheduler", self.address, "--retries", "9")
+        running = self.start("--scheduler", self.address, "--retries", "30")
         time.sleep(1)
         self.worker(1)
-        out, _ = running.communicate(timeout=PATIENCE)
+        out, _ = running.communicate(timeout=3 * PATIENCE)
         self.assertEqual(running.returncode, 0, out)
         self.want_as_one_machine()
 
