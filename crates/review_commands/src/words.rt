@@ -459,7 +459,7 @@ fn unasked_error(command: &mut Command<'_>, unasked: Unasked) -> Result<Error, A
         ),
         Unasked::BadKind => command.error(
             ErrorKind::InvalidValue,
-            "KIND is none of user, runas, host and cmnd",
+            "KIND is user, runas, host or cmnd",
         ),
         Unasked::BadCommand => command.error(
             ErrorKind::InvalidValue,

@@ -5,7 +5,7 @@ use Rattle.std.proofs.Common.{ap, arith, drop, get_or, length, take}
 use Rattle.std.specs.Prelude.{nat_lt}
 use Rattle.std.proofs.lemmas.Bool.{cases_lt}
 use Rattle.std.proofs.lemmas.Bool.Decides.{nat_tests}
-use Rattle.std.proofs.lemmas.List.{get_or-drop, get_or-take, length-map, length-take}
+use Rattle.std.proofs.lemmas.List.{get_or-drop, get_or-map, get_or-take, length-map, length-take}
 use Rattle.review_compare.specs.declared.reach.Reach.{Reach}
 use Rattle.review_compare.specs.declared.ruling.Ruled.{Ruled}
 use Rattle.review_compare.specs.Cells.{Decider, covers_where, lined_of}
@@ -90,12 +90,6 @@ reach-at rs r i a within is covers none =
 
 -- ---- The reach of a row at an index
 
-mapped-at : (f : Ruled → Reach) (xs : List Ruled) (i : ℕ) (r : Reach) (x : Ruled) → i < length xs → r ≡ get_or (map f xs) i r →
-    r ≡ f (get_or xs i x)
-mapped-at f [] i r x within is = absurd (omega (arith, within))
-mapped-at f (y ∷ xs) zero r x within is = is
-mapped-at f (y ∷ xs) (suc i) r x within is = mapped-at f xs i r x (omega (arith, within)) is
-
 pub reach-here : (rs ss rows : List Ruled) (front n index : ℕ) (reaches : List Reach) (r : Reach) (row : Ruled) →
     reaches ≡ map (reach_of rs ss) (take n (drop front rows)) → IsReachAt reaches front index r → row ≡ get_or rows index row →
     r ≡ reach_of rs ss row
@@ -106,6 +100,7 @@ reach-here rs ss rows front n index reaches r row are at is =
     let long : length reaches ≡ length part = ap length are ∙ length-map part (reach_of rs ss) in
     let below : k < length part = omega (arith, at.within, long) in
     let less : k < n = omega (arith, below, length-take n (drop front rows)) in
-    mapped-at (reach_of rs ss) part k r row below (at.is ∙ ap (λ (xs : List Reach). get_or xs k r) are)
+    at.is ∙ ap (λ (xs : List Reach). get_or xs k r) are
+    ∙ get_or-map (reach_of rs ss) part k row r below
     ∙ ap (reach_of rs ss)
     (get_or-take n (drop front rows) k row less ∙ get_or-drop front rows k row ∙ ap (λ j. get_or rows j row) here ∙ sym is)
