@@ -65,8 +65,22 @@ class Row(NamedTuple):
 
 
 def names(field: str, known: list[str]) -> list[str]:
-    """Returns the names that a field lists; an empty one where none is."""
-    return known if field == "ALL" else field.split(", ")
+    """Returns the names that a field lists, all or all but some where it begins with `ALL`; an empty one where none is."""
+    first, *others = field.split(", ")
+    if first != "ALL":
+        return [first, *others]
+    return [name for name in known if "!" + name not in others]
+
+
+def groups_of(field: str, target: str) -> list[str]:
+    """Returns the groups that a field lists for a target."""
+    known = sorted(listing.KNOWN_GROUPS)
+    kept: list[str] = []
+    for part in ("(own)", "(others)"):
+        if part in field:
+            kept += [name for name in known if (name in listing.GROUPS[target]) == (part == "(own)")]
+    listed = ", ".join(part for part in field.split(", ") if not part.startswith("("))
+    return [*(names(listed, known) if listed or not kept else ()), *kept]
 
 
 def cells_of(users: str, hosts: str, targets: str, groups: str) -> tuple[Cell, ...]:
@@ -77,7 +91,7 @@ def cells_of(users: str, hosts: str, targets: str, groups: str) -> tuple[Cell, .
         for user in names(users, known)
         for host in names(hosts, sorted(listing.KNOWN_HOSTS))
         for target in names(targets, known)
-        for group in names(groups, sorted(listing.KNOWN_GROUPS))
+        for group in groups_of(groups, target)
     )
 
 

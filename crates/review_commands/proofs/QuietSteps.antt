@@ -5,7 +5,7 @@ use Rattle.std.specs.Prelude.{◌||◌, if◌then◌else◌}
 use Rattle.std.specs.List.{list_any}
 use Rattle.sudo_grammar.specs.declared.policy.Policy.{Policy}
 use Rattle.sudo_verdict.specs.Questions.{Question}
-use Rattle.review_compare.specs.Differences.{Finds, FoundIf, SameIf, question_at}
+use Rattle.review_compare.specs.Differences.{Asking, Finds, FoundIf, SameIf, is_asked, question_at}
 use Rattle.review_compare.specs.declared.cell.Cell.{Cell}
 use Rattle.review_compare.specs.declared.compared.Compared.{Compared}
 use Rattle.review_compare.specs.declared.compared.Compared.TheVariants as compared
@@ -23,14 +23,14 @@ none-of : (b : Bool) (status : ℕ) → status ≡ 0 → status ≡ (if b then 5
 none-of true status zero e = absurd (omega (arith, zero, e))
 none-of false status zero e = refl
 
-unshown : (rows : List Row) (c : Cell) (f : Compared) → list_any (λ (r : Row). is_shown r.found) rows ≡ false → Finds rows c f
-    → is_shown f ≡ false
-unshown [] c f none finds = absurd finds
-unshown (r ∷ rows) c f none finds =
+unshown : (asks : Asking) (rows : List Row) (c : Cell) (f : Compared) → list_any (λ (r : Row). is_shown r.found) rows ≡ false →
+    Finds asks rows c f → is_shown f ≡ false
+unshown asks [] c f none finds = absurd finds
+unshown asks (r ∷ rows) c f none finds =
     let both = neither (is_shown r.found) (list_any (λ (r : Row). is_shown r.found) rows) none in
     elim finds [
       | inl here ↦ subst (λ (g : Compared). is_shown g ≡ false) here.1 both.0
-      | inr more ↦ unshown rows c f both.1 more
+      | inr more ↦ unshown asks rows c f both.1 more
     ]
 
 some-shown : (ws : List Witness) → 0 < length ws → are_shown ws ≡ false → ⊥
@@ -49,5 +49,5 @@ quiet-says-same person machine old new d text c made asked =
     elim (made.are.complete c asked) [
       | inl same ↦ same
       | inr (f, finds) ↦ found-same old new (question_at d (known_groups d) c) f (made.are.right c f finds)
-          (unshown made.rows c f none finds)
+          (unshown (is_asked d (known_groups d)) made.rows c f none finds)
     ]

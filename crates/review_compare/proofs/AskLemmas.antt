@@ -16,14 +16,20 @@ use Rattle.review_compare.specs.declared.ask_class.AskClass.{AskClass}
 use Rattle.review_compare.specs.declared.ask_class.AskedWith.{AskedWith}
 use Rattle.review_compare.specs.declared.block.Block.{Block}
 use Rattle.review_compare.specs.declared.cell.Ask.{Ask}
+use Rattle.review_compare.specs.declared.cell.AskedGroups.{AskedGroups}
+use Rattle.review_compare.specs.declared.cell.AskedGroups.TheVariants as which
 use Rattle.review_compare.specs.Cells.{Decider}
 use Rattle.review_compare.specs.declared.pair.Pair.{Pair}
 use Rattle.review_compare.specs.declared.spot.Listed.{Listed}
-use Rattle.review_compare.specs.Body.AskClasses.{AddsAsked, AreAsked, Decide, HaveAsk, HaveIn, IsAskClass, IsAskedWith}
+use Rattle.review_compare.specs.Differences.{Asking}
+use Rattle.review_compare.specs.Body.AskClasses.{AddsAsked, AddsTarget, AreAsked, Decide, HaveAsk, HaveIn, IsAskClass, IsAskedFor}
+use Rattle.review_compare.specs.Body.AskClasses.{IsAskedWith}
+use Rattle.review_compare.specs.Body.Progress.{asking}
 use Rattle.review_compare.specs.Body.Classes.{AreSameBlocks}
 use Rattle.review_compare.specs.Body.Chosen.{HaveAllOf, chosen, deciders_at, host_at, runas_at, standing_among, user_at}
 use Rattle.review_compare.specs.Body.Near.{each_one, near_deciders}
 use Rattle.review_compare.proofs.ChosenLemmas.{no-host, stands-at}
+use Rattle.review_compare.proofs.DifferenceLemmas.{numbers-same, same-number}
 use Rattle.review_compare.proofs.UnchangedLemmas.{other-host-runas}
 
 -- ---- The blocks that decide
@@ -81,113 +87,132 @@ module _ (p : Policy) (bs : List Block) (d : KnownRows) (u : Person) (first m : 
 
 -- ---- The asks that are there
 
-pub alone-only : (group : Option ℕ) (ts : List (Option ℕ)) (w : AskedWith) (ask : Ask) → w.group ≡ ask.group →
-    w.targets.items ≡ ask.target ∷ [] → (a : Ask) → IsAskedWith w a → ask ≡ a
-alone-only group ts w ask own are a is =
-    at (sym own ∙ is.0) (Contains-push_cases [] ask.target a.target (subst (λ (ts : List (Option ℕ)). Contains ts a.target) are is.1))
-  where
-    at : ask.group ≡ a.group → Contains {X = Option ℕ} [] a.target ⊎ (ask.target ≡ a.target) → ask ≡ a
-    at g (inl none) = absurd (omega (arith, none.1))
-    at g (inr t) = rw (g, t) refl
-
-pub alone-has : (w : AskedWith) (ask : Ask) → w.group ≡ ask.group → w.targets.items ≡ ask.target ∷ [] → IsAskedWith w ask
-alone-has w ask own are =
-    (own, subst (λ (ts : List (Option ℕ)). Contains ts ask.target) (sym are) (Contains-push {X = Option ℕ} [] ask.target))
-
 -- the targets at an index with a further one
-module _ (ask : Ask) (v : AskedWith) where
-  abbrev AddsTarget : AskedWith → Type 0
-  AddsTarget w = (w.group ≡ ask.group) × (v.group ≡ w.group) × (v.targets.items ≡ w.targets.items ++ ask.target ∷ [])
+module _ (target : Option ℕ) (groups : AskedGroups) (v : AskedWith) where
+  abbrev IsWithTarget : AskedWith → Type 0
+  IsWithTarget w = (w.groups ≡ groups) × (v.groups ≡ w.groups) × (v.targets.items ≡ w.targets.items ++ target ∷ [])
 
-  with-kept : (w : AskedWith) → AddsTarget w → (a : Ask) → IsAskedWith w a → IsAskedWith v a
-  with-kept w adds a is = (
-    adds.1 ∙ is.0,
+  with-kept : (w : AskedWith) → IsWithTarget w → (asks : Asking) (a : Ask) → IsAskedWith asks w a → IsAskedWith asks v a
+  with-kept w adds asks a is = (
+    ap (asks a.target a.group) adds.1 ∙ is.0,
     subst (λ (ts : List (Option ℕ)). Contains ts a.target) (sym adds.2)
-        (Contains-append_left w.targets.items (ask.target ∷ []) a.target is.1),
+        (Contains-append_left w.targets.items (target ∷ []) a.target is.1),
   )
 
-  with-added : (w : AskedWith) → AddsTarget w → IsAskedWith v ask
-  with-added w adds =
-      (adds.1 ∙ adds.0, subst (λ (ts : List (Option ℕ)). Contains ts ask.target) (sym adds.2) (Contains-push w.targets.items ask.target))
+  with-added : (w : AskedWith) → IsWithTarget w → (asks : Asking) (a : Ask) → IsAskedFor asks target groups a → IsAskedWith asks v a
+  with-added w adds asks a is = (
+    ap (asks a.target a.group) (adds.1 ∙ adds.0) ∙ is.1,
+    subst (λ (t : Option ℕ). Contains v.targets.items t) is.0
+        (subst (λ (ts : List (Option ℕ)). Contains ts target) (sym adds.2) (Contains-push w.targets.items target)),
+  )
 
-  with-only : (w : AskedWith) → AddsTarget w → (a : Ask) → IsAskedWith v a → IsAskedWith w a ⊎ (ask ≡ a)
-  with-only w adds a is =
-      by (sym adds.1 ∙ is.0) (Contains-push_cases w.targets.items ask.target a.target
+  with-only : (w : AskedWith) → IsWithTarget w → (asks : Asking) (a : Ask) → IsAskedWith asks v a →
+      IsAskedWith asks w a ⊎ IsAskedFor asks target groups a
+  with-only w adds asks a is =
+      by (ap (asks a.target a.group) (sym adds.1) ∙ is.0) (Contains-push_cases w.targets.items target a.target
       (subst (λ (ts : List (Option ℕ)). Contains ts a.target) adds.2 is.1))
     where
-      by : w.group ≡ a.group → Contains w.targets.items a.target ⊎ (ask.target ≡ a.target) → IsAskedWith w a ⊎ (ask ≡ a)
+      by : asks a.target a.group w.groups ≡ true → Contains w.targets.items a.target ⊎ (target ≡ a.target) →
+          IsAskedWith asks w a ⊎ IsAskedFor asks target groups a
       by g (inl there) = inl (g, there)
-      by g (inr t) = inr (rw (sym adds.0 ∙ g, t) refl)
+      by g (inr t) = inr (t, ap (asks a.target a.group) (sym adds.0) ∙ g)
 
-  set-kept : (ws : List AskedWith) (i : ℕ) (d : AskedWith) → i < length ws → AddsTarget (get_or ws i d) → (a : Ask) → AreAsked ws a →
-      AreAsked (slice_set ws i v) a
-  set-kept [] i d less adds a e = absurd e
-  set-kept (w ∷ ws) zero d less adds a (inl here) = inl (with-kept w adds a here)
-  set-kept (w ∷ ws) zero d less adds a (inr more) = inr more
-  set-kept (w ∷ ws) (suc i) d less adds a (inl here) = inl here
-  set-kept (w ∷ ws) (suc i) d less adds a (inr more) = inr (set-kept ws i d (omega (arith, less)) adds a more)
+  set-kept : (ws : List AskedWith) (i : ℕ) (d : AskedWith) → i < length ws → IsWithTarget (get_or ws i d) → (asks : Asking) (a : Ask) →
+      AreAsked asks ws a → AreAsked asks (slice_set ws i v) a
+  set-kept [] i d less adds asks a e = absurd e
+  set-kept (w ∷ ws) zero d less adds asks a (inl here) = inl (with-kept w adds asks a here)
+  set-kept (w ∷ ws) zero d less adds asks a (inr more) = inr more
+  set-kept (w ∷ ws) (suc i) d less adds asks a (inl here) = inl here
+  set-kept (w ∷ ws) (suc i) d less adds asks a (inr more) = inr (set-kept ws i d (omega (arith, less)) adds asks a more)
 
-  set-added : (ws : List AskedWith) (i : ℕ) (d : AskedWith) → i < length ws → AddsTarget (get_or ws i d) → AreAsked (slice_set ws i v) ask
-  set-added [] i d less adds = absurd (omega (arith, less))
-  set-added (w ∷ ws) zero d less adds = inl (with-added w adds)
-  set-added (w ∷ ws) (suc i) d less adds = inr (set-added ws i d (omega (arith, less)) adds)
+  set-added : (ws : List AskedWith) (i : ℕ) (d : AskedWith) → i < length ws → IsWithTarget (get_or ws i d) → (asks : Asking) (a : Ask) →
+      IsAskedFor asks target groups a → AreAsked asks (slice_set ws i v) a
+  set-added [] i d less adds asks a is = absurd (omega (arith, less))
+  set-added (w ∷ ws) zero d less adds asks a is = inl (with-added w adds asks a is)
+  set-added (w ∷ ws) (suc i) d less adds asks a is = inr (set-added ws i d (omega (arith, less)) adds asks a is)
 
-  set-only : (ws : List AskedWith) (i : ℕ) (d : AskedWith) → i < length ws → AddsTarget (get_or ws i d) → (a : Ask) →
-      AreAsked (slice_set ws i v) a → AreAsked ws a ⊎ (ask ≡ a)
-  set-only [] i d less adds a e = absurd (omega (arith, less))
-  set-only (w ∷ ws) zero d less adds a (inl here) = go (with-only w adds a here)
+  set-only : (ws : List AskedWith) (i : ℕ) (d : AskedWith) → i < length ws → IsWithTarget (get_or ws i d) → (asks : Asking) (a : Ask) →
+      AreAsked asks (slice_set ws i v) a → AreAsked asks ws a ⊎ IsAskedFor asks target groups a
+  set-only [] i d less adds asks a e = absurd (omega (arith, less))
+  set-only (w ∷ ws) zero d less adds asks a (inl here) = go (with-only w adds asks a here)
     where
-      go : IsAskedWith w a ⊎ (ask ≡ a) → AreAsked (w ∷ ws) a ⊎ (ask ≡ a)
+      go : IsAskedWith asks w a ⊎ IsAskedFor asks target groups a → AreAsked asks (w ∷ ws) a ⊎ IsAskedFor asks target groups a
       go (inl own) = inl (inl own)
       go (inr is) = inr is
-  set-only (w ∷ ws) zero d less adds a (inr more) = inl (inr more)
-  set-only (w ∷ ws) (suc i) d less adds a (inl here) = inl (inl here)
-  set-only (w ∷ ws) (suc i) d less adds a (inr more) = go (set-only ws i d (omega (arith, less)) adds a more)
+  set-only (w ∷ ws) zero d less adds asks a (inr more) = inl (inr more)
+  set-only (w ∷ ws) (suc i) d less adds asks a (inl here) = inl (inl here)
+  set-only (w ∷ ws) (suc i) d less adds asks a (inr more) = go (set-only ws i d (omega (arith, less)) adds asks a more)
     where
-      go : AreAsked ws a ⊎ (ask ≡ a) → AreAsked (w ∷ ws) a ⊎ (ask ≡ a)
+      go : AreAsked asks ws a ⊎ IsAskedFor asks target groups a → AreAsked asks (w ∷ ws) a ⊎ IsAskedFor asks target groups a
       go (inl e) = inl (inr e)
       go (inr is) = inr is
 
-  pub target-added : (ws : List AskedWith) (i : ℕ) (d : AskedWith) → i < length ws → (get_or ws i d).group ≡ ask.group →
-      v.group ≡ (get_or ws i d).group → v.targets.items ≡ (get_or ws i d).targets.items ++ ask.target ∷ [] →
-      AddsAsked ws ask (slice_set ws i v)
+  pub target-added : (ws : List AskedWith) (i : ℕ) (d : AskedWith) → i < length ws → (get_or ws i d).groups ≡ groups →
+      v.groups ≡ (get_or ws i d).groups → v.targets.items ≡ (get_or ws i d).targets.items ++ target ∷ [] →
+      AddsTarget ws target groups (slice_set ws i v)
   target-added ws i d less own group targets = record {
     kept = set-kept ws i d less (own, group, targets);
     added = set-added ws i d less (own, group, targets);
     only = set-only ws i d less (own, group, targets);
   }
 
-pub asked-first : (ws : List AskedWith) (w : AskedWith) (a : Ask) → AreAsked ws a → AreAsked (ws ++ w ∷ []) a
-asked-first [] w a e = absurd e
-asked-first (v ∷ ws) w a (inl here) = inl here
-asked-first (v ∷ ws) w a (inr more) = inr (asked-first ws w a more)
+pub asked-first : (asks : Asking) (ws : List AskedWith) (w : AskedWith) (a : Ask) → AreAsked asks ws a → AreAsked asks (ws ++ w ∷ []) a
+asked-first asks [] w a e = absurd e
+asked-first asks (v ∷ ws) w a (inl here) = inl here
+asked-first asks (v ∷ ws) w a (inr more) = inr (asked-first asks ws w a more)
 
-pub asked-last : (ws : List AskedWith) (w : AskedWith) (a : Ask) → IsAskedWith w a → AreAsked (ws ++ w ∷ []) a
-asked-last [] w a is = inl is
-asked-last (v ∷ ws) w a is = inr (asked-last ws w a is)
+pub asked-last : (asks : Asking) (ws : List AskedWith) (w : AskedWith) (a : Ask) → IsAskedWith asks w a →
+    AreAsked asks (ws ++ w ∷ []) a
+asked-last asks [] w a is = inl is
+asked-last asks (v ∷ ws) w a is = inr (asked-last asks ws w a is)
 
-pub asked-cases : (ws : List AskedWith) (w : AskedWith) (a : Ask) → AreAsked (ws ++ w ∷ []) a → AreAsked ws a ⊎ IsAskedWith w a
-asked-cases [] w a (inl here) = inr here
-asked-cases [] w a (inr none) = absurd none
-asked-cases (v ∷ ws) w a (inl here) = inl (inl here)
-asked-cases (v ∷ ws) w a (inr more) = go (asked-cases ws w a more)
+pub asked-cases : (asks : Asking) (ws : List AskedWith) (w : AskedWith) (a : Ask) → AreAsked asks (ws ++ w ∷ []) a →
+    AreAsked asks ws a ⊎ IsAskedWith asks w a
+asked-cases asks [] w a (inl here) = inr here
+asked-cases asks [] w a (inr none) = absurd none
+asked-cases asks (v ∷ ws) w a (inl here) = inl (inl here)
+asked-cases asks (v ∷ ws) w a (inr more) = go (asked-cases asks ws w a more)
   where
-    go : AreAsked ws a ⊎ IsAskedWith w a → AreAsked (v ∷ ws) a ⊎ IsAskedWith w a
+    go : AreAsked asks ws a ⊎ IsAskedWith asks w a → AreAsked asks (v ∷ ws) a ⊎ IsAskedWith asks w a
     go (inl e) = inl (inr e)
     go (inr is) = inr is
 
--- one ask alone behind the others
-pub alone-added : (ws : List AskedWith) (w : AskedWith) (ask : Ask) → ((a : Ask) → IsAskedWith w a → ask ≡ a) → IsAskedWith w ask →
-    AddsAsked ws ask (ws ++ w ∷ [])
-alone-added ws w ask only has = record {
-  kept = λ a e. asked-first ws w a e;
-  added = asked-last ws w ask has;
-  only = λ a e. go a (asked-cases ws w a e);
+-- one target alone behind the others
+pub alone-added : (ws : List AskedWith) (w : AskedWith) (target : Option ℕ) (groups : AskedGroups) → w.groups ≡ groups →
+    w.targets.items ≡ target ∷ [] → AddsTarget ws target groups (ws ++ w ∷ [])
+alone-added ws w target groups own are = record {
+  kept = λ asks a e. asked-first asks ws w a e;
+  added = λ asks a is. asked-last asks ws w a (
+    ap (asks a.target a.group) own ∙ is.1,
+    subst (λ (t : Option ℕ). Contains w.targets.items t) is.0
+        (subst (λ (ts : List (Option ℕ)). Contains ts target) (sym are) (Contains-push {X = Option ℕ} [] target)),
+  );
+  only = λ asks a e. go asks a (asked-cases asks ws w a e);
 }
   where
-    go : (a : Ask) → AreAsked ws a ⊎ IsAskedWith w a → AreAsked ws a ⊎ (ask ≡ a)
+    at : (asks : Asking) (a : Ask) → asks a.target a.group w.groups ≡ true →
+        Contains {X = Option ℕ} [] a.target ⊎ (target ≡ a.target) → IsAskedFor asks target groups a
+    at asks a g (inl none) = absurd (omega (arith, none.1))
+    at asks a g (inr t) = (t, ap (asks a.target a.group) (sym own) ∙ g)
+
+    go : (asks : Asking) (a : Ask) → AreAsked asks ws a ⊎ IsAskedWith asks w a → AreAsked asks ws a ⊎ IsAskedFor asks target groups a
+    go asks a (inl e) = inl e
+    go asks a (inr is) =
+        inr (at asks a is.0 (Contains-push_cases [] target a.target (subst (λ (ts : List (Option ℕ)). Contains ts a.target) are is.1)))
+
+-- a target with one group is an ask
+pub ask-added : (p : Pair) (ws new : List AskedWith) (ask : Ask) → AddsTarget ws ask.target (which.One ask.group) new →
+    AddsAsked p ws ask new
+ask-added p ws new ask adds = record {
+  kept = adds.kept (asking p);
+  added = adds.added (asking p) ask (refl, same-number ask.group);
+  only = λ a e. go a (adds.only (asking p) a e);
+}
+  where
+    go : (a : Ask) → AreAsked (asking p) ws a ⊎ IsAskedFor (asking p) ask.target (which.One ask.group) a →
+        AreAsked (asking p) ws a ⊎ (ask ≡ a)
     go a (inl e) = inl e
-    go a (inr is) = inr (only a is)
+    go a (inr is) = inr (rw (is.0, sym (numbers-same a.group ask.group is.1)) refl)
 
 -- ---- Classes
 
@@ -201,93 +226,96 @@ decide-same p u a l j same decide = record {
 
 -- a class with a further ask that the same blocks decide
 pub class-added : (p : Pair) (u : Person) (r k : AskClass) (ask : Ask) (l : Listed) → IsAskClass p u r → AreSameBlocks r.allowing l →
-    Decide p u ask l → k.allowing ≡ r.allowing → AddsAsked r.asked.items ask k.asked.items → IsAskClass p u k
+    Decide p u ask l → k.allowing ≡ r.allowing → AddsAsked p r.asked.items ask k.asked.items → IsAskClass p u k
 class-added p u r k ask l is same decide allowing adds a e =
     subst (Decide p u a) (sym allowing) (go (adds.only a e))
   where
-    go : AreAsked r.asked.items a ⊎ (ask ≡ a) → Decide p u a r.allowing
+    go : AreAsked (asking p) r.asked.items a ⊎ (ask ≡ a) → Decide p u a r.allowing
     go (inl before) = is a before
     go (inr here) = decide-same p u a l r.allowing same (subst (λ (b : Ask). Decide p u b l) here decide)
 
 -- a class of one ask
 pub class-of-one : (p : Pair) (u : Person) (k : AskClass) (ask : Ask) (l : Listed) → Decide p u ask l → k.allowing ≡ l →
-    AddsAsked [] ask k.asked.items → IsAskClass p u k
+    AddsAsked p [] ask k.asked.items → IsAskClass p u k
 class-of-one p u k ask l decide allowing adds a e = subst (Decide p u a) (sym allowing) (go (adds.only a e))
   where
-    go : AreAsked [] a ⊎ (ask ≡ a) → Decide p u a l
+    go : AreAsked (asking p) [] a ⊎ (ask ≡ a) → Decide p u a l
     go (inl none) = absurd none
     go (inr here) = subst (λ (b : Ask). Decide p u b l) here decide
 
 -- one ask more is in a class
-pub asks-more : (asks : List Ask) (n : ℕ) (ask : Ask) (ks js : List AskClass) → n < length asks → ask ≡ get_or asks n ask →
-    ((a : Ask) → Contains (take n asks) a → HaveAsk ks a) → ((a : Ask) → HaveAsk ks a → HaveAsk js a) → HaveAsk js ask →
-    (a : Ask) → Contains (take (n + 1) asks) a → HaveAsk js a
-asks-more asks n ask ks js less is so_far kept has a there =
+pub asks-more : (p : Pair) (asks : List Ask) (n : ℕ) (ask : Ask) (ks js : List AskClass) → n < length asks → ask ≡ get_or asks n ask →
+    ((a : Ask) → Contains (take n asks) a → HaveAsk (asking p) ks a) → ((a : Ask) → HaveAsk (asking p) ks a → HaveAsk (asking p) js a) →
+        HaveAsk (asking p) js ask →
+    (a : Ask) → Contains (take (n + 1) asks) a → HaveAsk (asking p) js a
+asks-more p asks n ask ks js less is so_far kept has a there =
     go (Contains-push_cases (take n asks) ask a (subst (λ (xs : List Ask). Contains xs a) (take-more asks n ask less is) there))
   where
-    go : Contains (take n asks) a ⊎ (ask ≡ a) → HaveAsk js a
+    go : Contains (take n asks) a ⊎ (ask ≡ a) → HaveAsk (asking p) js a
     go (inl before) = kept a (so_far a before)
-    go (inr here) = subst (HaveAsk js) here has
+    go (inr here) = subst (HaveAsk (asking p) js) here has
 
 -- asks that are among those of one of these
-module _ {K : Type 0} (asked : K → List AskedWith) where
-  pub kept-in : (ks : List K) (i : ℕ) (d k : K) → i < length ks → ((a : Ask) → AreAsked (asked (get_or ks i d)) a → AreAsked (asked k) a) →
-      (a : Ask) → HaveIn asked ks a → HaveIn asked (slice_set ks i k) a
+module _ {K : Type 0} (has : K → Ask → Type 0) where
+  pub kept-in : (ks : List K) (i : ℕ) (d k : K) → i < length ks → ((a : Ask) → has (get_or ks i d) a → has k a) →
+      (a : Ask) → HaveIn has ks a → HaveIn has (slice_set ks i k) a
   kept-in [] i d k less kept a e = absurd e
   kept-in (j ∷ ks) zero d k less kept a (inl here) = inl (kept a here)
   kept-in (j ∷ ks) zero d k less kept a (inr more) = inr more
   kept-in (j ∷ ks) (suc i) d k less kept a (inl here) = inl here
   kept-in (j ∷ ks) (suc i) d k less kept a (inr more) = inr (kept-in ks i d k (omega (arith, less)) kept a more)
 
-  pub has-in : (ks : List K) (i : ℕ) (k : K) (a : Ask) → i < length ks → AreAsked (asked k) a → HaveIn asked (slice_set ks i k) a
+  pub has-in : (ks : List K) (i : ℕ) (k : K) (a : Ask) → i < length ks → has k a → HaveIn has (slice_set ks i k) a
   has-in [] i k a less is = absurd (omega (arith, less))
   has-in (j ∷ ks) zero k a less is = inl is
   has-in (j ∷ ks) (suc i) k a less is = inr (has-in ks i k a (omega (arith, less)) is)
 
-  pub first-in : (ks : List K) (k : K) (a : Ask) → HaveIn asked ks a → HaveIn asked (ks ++ k ∷ []) a
+  pub first-in : (ks : List K) (k : K) (a : Ask) → HaveIn has ks a → HaveIn has (ks ++ k ∷ []) a
   first-in [] k a e = absurd e
   first-in (j ∷ ks) k a (inl here) = inl here
   first-in (j ∷ ks) k a (inr more) = inr (first-in ks k a more)
 
-  pub last-in : (ks : List K) (k : K) (a : Ask) → AreAsked (asked k) a → HaveIn asked (ks ++ k ∷ []) a
+  pub last-in : (ks : List K) (k : K) (a : Ask) → has k a → HaveIn has (ks ++ k ∷ []) a
   last-in [] k a is = inl is
   last-in (j ∷ ks) k a is = inr (last-in ks k a is)
 
-  pub cases-in : (ks : List K) (k : K) (a : Ask) → HaveIn asked (ks ++ k ∷ []) a → HaveIn asked ks a ⊎ AreAsked (asked k) a
+  pub cases-in : (ks : List K) (k : K) (a : Ask) → HaveIn has (ks ++ k ∷ []) a → HaveIn has ks a ⊎ has k a
   cases-in [] k a (inl here) = inr here
   cases-in [] k a (inr none) = absurd none
   cases-in (j ∷ ks) k a (inl here) = inl (inl here)
   cases-in (j ∷ ks) k a (inr more) = go (cases-in ks k a more)
     where
-      go : HaveIn asked ks a ⊎ AreAsked (asked k) a → HaveIn asked (j ∷ ks) a ⊎ AreAsked (asked k) a
+      go : HaveIn has ks a ⊎ has k a → HaveIn has (j ∷ ks) a ⊎ has k a
       go (inl e) = inl (inr e)
       go (inr is) = inr is
 
   -- those of one more
   pub more-in : (ks : List K) (n : ℕ) (k : K) (P : Ask → Type 0) → n < length ks → k ≡ get_or ks n k →
-      ((a : Ask) → HaveIn asked (take n ks) a → P a) → ((a : Ask) → AreAsked (asked k) a → P a) → (a : Ask) →
-      HaveIn asked (take (n + 1) ks) a → P a
+      ((a : Ask) → HaveIn has (take n ks) a → P a) → ((a : Ask) → has k a → P a) → (a : Ask) →
+      HaveIn has (take (n + 1) ks) a → P a
   more-in ks n k P less is so_far its a there =
-      go (cases-in (take n ks) k a (subst (λ (js : List K). HaveIn asked js a) (take-more ks n k less is) there))
+      go (cases-in (take n ks) k a (subst (λ (js : List K). HaveIn has js a) (take-more ks n k less is) there))
     where
-      go : HaveIn asked (take n ks) a ⊎ AreAsked (asked k) a → P a
+      go : HaveIn has (take n ks) a ⊎ has k a → P a
       go (inl e) = so_far a e
       go (inr e) = its a e
 
-pub class-kept : (ks : List AskClass) (i : ℕ) (d k : AskClass) → i < length ks →
-    ((a : Ask) → AreAsked (get_or ks i d).asked.items a → AreAsked k.asked.items a) → (a : Ask) → HaveAsk ks a →
-    HaveAsk (slice_set ks i k) a
-class-kept ks i d k less kept a e = kept-in (λ (c : AskClass). c.asked.items) ks i d k less kept a e
+module _ (asks : Asking) where
+  abbrev ClassHas : AskClass → Ask → Type 0
+  ClassHas k a = AreAsked asks k.asked.items a
 
-pub class-has : (ks : List AskClass) (i : ℕ) (k : AskClass) (a : Ask) → i < length ks → AreAsked k.asked.items a →
-    HaveAsk (slice_set ks i k) a
-class-has ks i k a less is = has-in (λ (c : AskClass). c.asked.items) ks i k a less is
+  pub class-kept : (ks : List AskClass) (i : ℕ) (d k : AskClass) → i < length ks →
+      ((a : Ask) → ClassHas (get_or ks i d) a → ClassHas k a) → (a : Ask) → HaveAsk asks ks a → HaveAsk asks (slice_set ks i k) a
+  class-kept ks i d k less kept a e = kept-in ClassHas ks i d k less kept a e
 
-pub classes-first : (ks : List AskClass) (k : AskClass) (a : Ask) → HaveAsk ks a → HaveAsk (ks ++ k ∷ []) a
-classes-first ks k a e = first-in (λ (c : AskClass). c.asked.items) ks k a e
+  pub class-has : (ks : List AskClass) (i : ℕ) (k : AskClass) (a : Ask) → i < length ks → ClassHas k a → HaveAsk asks (slice_set ks i k) a
+  class-has ks i k a less is = has-in ClassHas ks i k a less is
 
-pub classes-last : (ks : List AskClass) (k : AskClass) (a : Ask) → AreAsked k.asked.items a → HaveAsk (ks ++ k ∷ []) a
-classes-last ks k a is = last-in (λ (c : AskClass). c.asked.items) ks k a is
+  pub classes-first : (ks : List AskClass) (k : AskClass) (a : Ask) → HaveAsk asks ks a → HaveAsk asks (ks ++ k ∷ []) a
+  classes-first ks k a e = first-in ClassHas ks k a e
 
-pub classes-cases : (ks : List AskClass) (k : AskClass) (a : Ask) → HaveAsk (ks ++ k ∷ []) a → HaveAsk ks a ⊎ AreAsked k.asked.items a
-classes-cases ks k a e = cases-in (λ (c : AskClass). c.asked.items) ks k a e
+  pub classes-last : (ks : List AskClass) (k : AskClass) (a : Ask) → ClassHas k a → HaveAsk asks (ks ++ k ∷ []) a
+  classes-last ks k a is = last-in ClassHas ks k a is
+
+  pub classes-cases : (ks : List AskClass) (k : AskClass) (a : Ask) → HaveAsk asks (ks ++ k ∷ []) a → HaveAsk asks ks a ⊎ ClassHas k a
+  classes-cases ks k a e = cases-in ClassHas ks k a e

@@ -31,7 +31,7 @@ use Rattle.review_compare.specs.Body.Near.{IsFoundNear, each_one, near_deciders,
 use Rattle.review_compare.specs.Body.Classes.{AddsCells, AddsHosts, AreRightIn, AreSameBlocks, HaveHost, IsClass, IsClassed}
 use Rattle.review_compare.specs.Body.Classes.{IsFoundAt, IsOnClasses, IsWith}
 use Rattle.review_compare.specs.Body.Merged.{IsOnAmong, is_among}
-use Rattle.review_compare.specs.Body.Progress.{AreListedIn, IsBefore, IsOnAsked, IsOnEach, IsSpot, Progress, cell_at}
+use Rattle.review_compare.specs.Body.Progress.{asking, AreListedIn, IsBefore, IsOnAsked, IsOnEach, IsSpot, Progress, cell_at}
 use Rattle.review_compare.specs.Body.Progress.{question_of}
 use Rattle.review_compare.proofs.ChosenLemmas.{stands-at}
 use Rattle.review_compare.proofs.DifferenceLemmas.{spot-question, went-on}
@@ -235,7 +235,8 @@ class-with p user u ks k new more class right is = record {
   );
 }
   where
-    go : (n : ℕ) (d : AskClass) (e : Compared) → n < length ks → (c : Cell) → c.user ≡ user → AreAsked (get_or ks n d).asked.items c.ask →
+    go : (n : ℕ) (d : AskClass) (e : Compared) → n < length ks → (c : Cell) → c.user ≡ user →
+        AreAsked (asking p) (get_or ks n d).asked.items c.ask →
         (is_among k.hosts.items c.host ≡ true) ⊎ (is_among more c.host ≡ true) →
         IsFoundAt p (question_at p.directory.now p.groups.now c) (get_or k.founds.items n e)
     go n d e less c own asked (inl on) = class.right.1 n d e less c (own, on, asked)

@@ -21,7 +21,7 @@ use Rattle.sudo_verdict.specs.Questions.{Question, question_as}
 use Rattle.review_compare.proofs.UnchangedLemmas.{less-or}
 use Rattle.review_compare.specs.Cells.{SaySame}
 use Rattle.review_compare.specs.Body.Merged.{same_numbers, AbsorbsAll}
-use Rattle.review_compare.specs.Body.Progress.{Progress, IsSpot, IsOnAsked, IsOnEach, IsBefore, IsForAsked, IsForUser}
+use Rattle.review_compare.specs.Body.Progress.{asking, Progress, IsSpot, IsOnAsked, IsOnEach, IsBefore, IsForAsked, IsForUser}
 use Rattle.review_compare.specs.Body.Progress.{IsUserBefore}
 use Rattle.review_compare.specs.Body.Progress.{AreLeft, AreLeftForAll, AreLeftUnless, IsAsked, SayAllSame, ask_of, cell_at, question_of}
 
@@ -44,6 +44,10 @@ numbers-same None (Some j) e = cc
 numbers-same (Some i) None e = cc
 numbers-same (Some i) (Some j) e = ap (λ n. Some n) (eqb-true i j e)
 
+pub same-number : (o : Option ℕ) → same_number o o ≡ true
+same-number None = refl
+same-number (Some n) = grind arith
+
 pub lists-same : (xs ys : List (Option ℕ)) → same_numbers xs ys ≡ true → xs ≡ ys
 lists-same [] [] e = refl
 lists-same [] (y ∷ ys) e = cc
@@ -54,7 +58,7 @@ lists-same (x ∷ xs) (y ∷ ys) e =
 
 -- ---- Progress
 
-done-kept : (p : Pair) (before after : List Row) (c : Cell) → ((f : Compared) → Finds before c f → Finds after c f) →
+done-kept : (p : Pair) (before after : List Row) (c : Cell) → ((f : Compared) → Finds (asking p) before c f → Finds (asking p) after c f) →
     IsDone p.old.checked.now p.new.checked.now p.directory.now p.groups.now before c →
     IsDone p.old.checked.now p.new.checked.now p.directory.now p.groups.now after c
 done-kept p before after c kept (inl same) = inl same
@@ -100,20 +104,21 @@ spot-question p s a at =
 pub all-added : (p : Pair) (rows more new : List Row) (P : Cell → Type 0) → Progress p [] more P → AbsorbsAll rows more new →
     Progress p rows new P
 all-added p rows more new P own absorbs = record {
-  kept = absorbs.kept;
-  right = λ right c f e. go right c f (absorbs.only c f e);
-  done = λ c at. done-kept p more new c (absorbs.added c) (own.done c at);
+  kept = absorbs.kept (asking p);
+  right = λ right c f e. go right c f (absorbs.only (asking p) c f e);
+  done = λ c at. done-kept p more new c (absorbs.added (asking p) c) (own.done c at);
 }
   where
-    go : ((c : Cell) (f : Compared) → Finds rows c f → IsFound p.old.checked.now p.new.checked.now p.directory.now p.groups.now c f) →
-        (c : Cell) (f : Compared) → Finds rows c f ⊎ Finds more c f →
+    go : ((c : Cell) (f : Compared) → Finds (asking p) rows c f →
+        IsFound p.old.checked.now p.new.checked.now p.directory.now p.groups.now c f) →
+        (c : Cell) (f : Compared) → Finds (asking p) rows c f ⊎ Finds (asking p) more c f →
         IsFound p.old.checked.now p.new.checked.now p.directory.now p.groups.now c f
     go right c f (inl e) = right c f e
     go right c f (inr e) = own.right (λ d g none. absurd none) c f e
 
 -- ---- Hosts
 
-there-of : {X : Type 0} (t : Option X → Bool) (xs : List X) (i : ℕ) → t None ≡ false → t (slice_get xs i) ≡ true → i < length xs
+pub there-of : {X : Type 0} (t : Option X → Bool) (xs : List X) (i : ℕ) → t None ≡ false → t (slice_get xs i) ≡ true → i < length xs
 there-of t [] i none e = let bad : false ≡ true = sym none ∙ e in cc
 there-of t (x ∷ xs) zero none e = omega arith
 there-of t (x ∷ xs) (suc i) none e = let more = there-of t xs i none e in omega (arith, more)

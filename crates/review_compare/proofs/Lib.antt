@@ -22,6 +22,7 @@ pub mod ChangedLemmas
 pub mod UnsettledLemmas
 pub mod NearLemmas
 pub mod AskLemmas
+pub mod BriefLemmas
 pub mod SpotLemmas
 pub mod SameRunasLemmas
 pub mod WhoeverLemmas

@@ -8,7 +8,7 @@ use Rattle.std.proofs.lemmas.List.Folds.{list_any-append}
 use Rattle.review_compare.specs.declared.cell.Cell.{Cell}
 use Rattle.review_compare.specs.declared.compared.Compared.{Compared}
 use Rattle.review_compare.specs.declared.row.Row.{Row}
-use Rattle.review_compare.specs.Differences.{Finds, has_cell, same_number}
+use Rattle.review_compare.specs.Differences.{Asking, Finds, has_cell, same_number}
 use Rattle.review_compare.specs.Body.Merged.{Absorbs, AbsorbsAll, IsJoined}
 
 -- ---- One row of two
@@ -50,18 +50,18 @@ fourth-of false t a b = refl
 pub joined-users : (r s : Row) → (r.hosts ≡ s.hosts) × (r.targets ≡ s.targets) × (r.groups ≡ s.groups) × (r.found ≡ s.found) →
     IsJoined r s (record r { users = r.users ++ s.users })
 joined-users r s like = record {
-  cells = λ c.
+  cells = λ asks c.
       ap (λ v. (v && list_any (λ m. m == c.host) r.hosts) && (list_any (same_number c.ask.target) r.targets && list_any
-      (same_number c.ask.group) r.groups))
+      (asks c.ask.target c.ask.group) r.groups))
       (list_any-append (λ u. u == c.user) r.users s.users)
       ∙ first-of (list_any (λ u. u == c.user) r.users) (list_any (λ u. u == c.user) s.users) (list_any (λ m. m == c.host) r.hosts)
-      (list_any (same_number c.ask.target) r.targets) (list_any (same_number c.ask.group) r.groups)
-      ∙ ap (λ hs. has_cell r c || ((list_any (λ u. u == c.user) s.users && list_any (λ m. m == c.host) hs)
-      && (list_any (same_number c.ask.target) r.targets && list_any (same_number c.ask.group) r.groups))) like.0
-      ∙ ap (λ ts. has_cell r c || ((list_any (λ u. u == c.user) s.users && list_any (λ m. m == c.host) s.hosts)
-      && (list_any (same_number c.ask.target) ts && list_any (same_number c.ask.group) r.groups))) like.1
-      ∙ ap (λ gs. has_cell r c || ((list_any (λ u. u == c.user) s.users && list_any (λ m. m == c.host) s.hosts)
-      && (list_any (same_number c.ask.target) s.targets && list_any (same_number c.ask.group) gs))) like.2;
+      (list_any (same_number c.ask.target) r.targets) (list_any (asks c.ask.target c.ask.group) r.groups)
+      ∙ ap (λ hs. has_cell asks r c || ((list_any (λ u. u == c.user) s.users && list_any (λ m. m == c.host) hs)
+      && (list_any (same_number c.ask.target) r.targets && list_any (asks c.ask.target c.ask.group) r.groups))) like.0
+      ∙ ap (λ ts. has_cell asks r c || ((list_any (λ u. u == c.user) s.users && list_any (λ m. m == c.host) s.hosts)
+      && (list_any (same_number c.ask.target) ts && list_any (asks c.ask.target c.ask.group) r.groups))) like.1
+      ∙ ap (λ gs. has_cell asks r c || ((list_any (λ u. u == c.user) s.users && list_any (λ m. m == c.host) s.hosts)
+      && (list_any (same_number c.ask.target) s.targets && list_any (asks c.ask.target c.ask.group) gs))) like.2;
   first = refl;
   second = like.3;
 }
@@ -69,18 +69,18 @@ joined-users r s like = record {
 pub joined-hosts : (r s : Row) → (r.users ≡ s.users) × (r.targets ≡ s.targets) × (r.groups ≡ s.groups) × (r.found ≡ s.found) →
     IsJoined r s (record r { hosts = r.hosts ++ s.hosts })
 joined-hosts r s like = record {
-  cells = λ c.
+  cells = λ asks c.
       ap (λ v. (list_any (λ u. u == c.user) r.users && v) && (list_any (same_number c.ask.target) r.targets && list_any
-      (same_number c.ask.group) r.groups))
+      (asks c.ask.target c.ask.group) r.groups))
       (list_any-append (λ m. m == c.host) r.hosts s.hosts)
       ∙ second-of (list_any (λ u. u == c.user) r.users) (list_any (λ m. m == c.host) r.hosts) (list_any (λ m. m == c.host) s.hosts)
-      (list_any (same_number c.ask.target) r.targets) (list_any (same_number c.ask.group) r.groups)
-      ∙ ap (λ us. has_cell r c || ((list_any (λ u. u == c.user) us && list_any (λ m. m == c.host) s.hosts)
-      && (list_any (same_number c.ask.target) r.targets && list_any (same_number c.ask.group) r.groups))) like.0
-      ∙ ap (λ ts. has_cell r c || ((list_any (λ u. u == c.user) s.users && list_any (λ m. m == c.host) s.hosts)
-      && (list_any (same_number c.ask.target) ts && list_any (same_number c.ask.group) r.groups))) like.1
-      ∙ ap (λ gs. has_cell r c || ((list_any (λ u. u == c.user) s.users && list_any (λ m. m == c.host) s.hosts)
-      && (list_any (same_number c.ask.target) s.targets && list_any (same_number c.ask.group) gs))) like.2;
+      (list_any (same_number c.ask.target) r.targets) (list_any (asks c.ask.target c.ask.group) r.groups)
+      ∙ ap (λ us. has_cell asks r c || ((list_any (λ u. u == c.user) us && list_any (λ m. m == c.host) s.hosts)
+      && (list_any (same_number c.ask.target) r.targets && list_any (asks c.ask.target c.ask.group) r.groups))) like.0
+      ∙ ap (λ ts. has_cell asks r c || ((list_any (λ u. u == c.user) s.users && list_any (λ m. m == c.host) s.hosts)
+      && (list_any (same_number c.ask.target) ts && list_any (asks c.ask.target c.ask.group) r.groups))) like.1
+      ∙ ap (λ gs. has_cell asks r c || ((list_any (λ u. u == c.user) s.users && list_any (λ m. m == c.host) s.hosts)
+      && (list_any (same_number c.ask.target) s.targets && list_any (asks c.ask.target c.ask.group) gs))) like.2;
   first = refl;
   second = like.3;
 }
@@ -88,19 +88,19 @@ joined-hosts r s like = record {
 pub joined-targets : (r s : Row) → (r.users ≡ s.users) × (r.hosts ≡ s.hosts) × (r.groups ≡ s.groups) × (r.found ≡ s.found) →
     IsJoined r s (record r { targets = r.targets ++ s.targets })
 joined-targets r s like = record {
-  cells = λ c.
+  cells = λ asks c.
       ap (λ v. (list_any (λ u. u == c.user) r.users && list_any (λ m. m == c.host) r.hosts) && (v && list_any
-      (same_number c.ask.group) r.groups))
+      (asks c.ask.target c.ask.group) r.groups))
       (list_any-append (same_number c.ask.target) r.targets s.targets)
       ∙ third-of (list_any (λ u. u == c.user) r.users && list_any (λ m. m == c.host) r.hosts)
       (list_any (same_number c.ask.target) r.targets) (list_any (same_number c.ask.target) s.targets) (list_any
-      (same_number c.ask.group) r.groups)
-      ∙ ap (λ us. has_cell r c || ((list_any (λ u. u == c.user) us && list_any (λ m. m == c.host) r.hosts)
-      && (list_any (same_number c.ask.target) s.targets && list_any (same_number c.ask.group) r.groups))) like.0
-      ∙ ap (λ hs. has_cell r c || ((list_any (λ u. u == c.user) s.users && list_any (λ m. m == c.host) hs)
-      && (list_any (same_number c.ask.target) s.targets && list_any (same_number c.ask.group) r.groups))) like.1
-      ∙ ap (λ gs. has_cell r c || ((list_any (λ u. u == c.user) s.users && list_any (λ m. m == c.host) s.hosts)
-      && (list_any (same_number c.ask.target) s.targets && list_any (same_number c.ask.group) gs))) like.2;
+      (asks c.ask.target c.ask.group) r.groups)
+      ∙ ap (λ us. has_cell asks r c || ((list_any (λ u. u == c.user) us && list_any (λ m. m == c.host) r.hosts)
+      && (list_any (same_number c.ask.target) s.targets && list_any (asks c.ask.target c.ask.group) r.groups))) like.0
+      ∙ ap (λ hs. has_cell asks r c || ((list_any (λ u. u == c.user) s.users && list_any (λ m. m == c.host) hs)
+      && (list_any (same_number c.ask.target) s.targets && list_any (asks c.ask.target c.ask.group) r.groups))) like.1
+      ∙ ap (λ gs. has_cell asks r c || ((list_any (λ u. u == c.user) s.users && list_any (λ m. m == c.host) s.hosts)
+      && (list_any (same_number c.ask.target) s.targets && list_any (asks c.ask.target c.ask.group) gs))) like.2;
   first = refl;
   second = like.3;
 }
@@ -108,84 +108,92 @@ joined-targets r s like = record {
 pub joined-groups : (r s : Row) → (r.users ≡ s.users) × (r.hosts ≡ s.hosts) × (r.targets ≡ s.targets) × (r.found ≡ s.found) →
     IsJoined r s (record r { groups = r.groups ++ s.groups })
 joined-groups r s like = record {
-  cells = λ c.
+  cells = λ asks c.
       ap (λ v. (list_any (λ u. u == c.user) r.users && list_any (λ m. m == c.host) r.hosts) && (list_any
       (same_number c.ask.target) r.targets && v))
-      (list_any-append (same_number c.ask.group) r.groups s.groups)
+      (list_any-append (asks c.ask.target c.ask.group) r.groups s.groups)
       ∙ fourth-of (list_any (λ u. u == c.user) r.users && list_any (λ m. m == c.host) r.hosts)
-      (list_any (same_number c.ask.target) r.targets) (list_any (same_number c.ask.group) r.groups) (list_any
-      (same_number c.ask.group) s.groups)
-      ∙ ap (λ us. has_cell r c || ((list_any (λ u. u == c.user) us && list_any (λ m. m == c.host) r.hosts)
-      && (list_any (same_number c.ask.target) r.targets && list_any (same_number c.ask.group) s.groups))) like.0
-      ∙ ap (λ hs. has_cell r c || ((list_any (λ u. u == c.user) s.users && list_any (λ m. m == c.host) hs)
-      && (list_any (same_number c.ask.target) r.targets && list_any (same_number c.ask.group) s.groups))) like.1
-      ∙ ap (λ ts. has_cell r c || ((list_any (λ u. u == c.user) s.users && list_any (λ m. m == c.host) s.hosts)
-      && (list_any (same_number c.ask.target) ts && list_any (same_number c.ask.group) s.groups))) like.2;
+      (list_any (same_number c.ask.target) r.targets) (list_any (asks c.ask.target c.ask.group) r.groups) (list_any
+      (asks c.ask.target c.ask.group) s.groups)
+      ∙ ap (λ us. has_cell asks r c || ((list_any (λ u. u == c.user) us && list_any (λ m. m == c.host) r.hosts)
+      && (list_any (same_number c.ask.target) r.targets && list_any (asks c.ask.target c.ask.group) s.groups))) like.0
+      ∙ ap (λ hs. has_cell asks r c || ((list_any (λ u. u == c.user) s.users && list_any (λ m. m == c.host) hs)
+      && (list_any (same_number c.ask.target) r.targets && list_any (asks c.ask.target c.ask.group) s.groups))) like.1
+      ∙ ap (λ ts. has_cell asks r c || ((list_any (λ u. u == c.user) s.users && list_any (λ m. m == c.host) s.hosts)
+      && (list_any (same_number c.ask.target) ts && list_any (asks c.ask.target c.ask.group) s.groups))) like.2;
   first = refl;
   second = like.3;
 }
 
 -- ---- Rows beside others
 
-pub finds-first : (xs ys : List Row) (c : Cell) (f : Compared) → Finds xs c f → Finds (xs ++ ys) c f
-finds-first [] ys c f e = absurd e
-finds-first (r ∷ xs) ys c f (inl here) = inl here
-finds-first (r ∷ xs) ys c f (inr more) = inr (finds-first xs ys c f more)
+pub finds-first : (xs ys : List Row) (asks : Asking) (c : Cell) (f : Compared) → Finds asks xs c f → Finds asks (xs ++ ys) c f
+finds-first [] ys asks c f e = absurd e
+finds-first (r ∷ xs) ys asks c f (inl here) = inl here
+finds-first (r ∷ xs) ys asks c f (inr more) = inr (finds-first xs ys asks c f more)
 
-pub finds-last : (xs ys : List Row) (c : Cell) (f : Compared) → Finds ys c f → Finds (xs ++ ys) c f
-finds-last [] ys c f e = e
-finds-last (r ∷ xs) ys c f e = inr (finds-last xs ys c f e)
+pub finds-last : (xs ys : List Row) (asks : Asking) (c : Cell) (f : Compared) → Finds asks ys c f → Finds asks (xs ++ ys) c f
+finds-last [] ys asks c f e = e
+finds-last (r ∷ xs) ys asks c f e = inr (finds-last xs ys asks c f e)
 
-pub finds-either : (xs ys : List Row) (c : Cell) (f : Compared) → Finds (xs ++ ys) c f → Finds xs c f ⊎ Finds ys c f
-finds-either [] ys c f e = inr e
-finds-either (r ∷ xs) ys c f (inl here) = inl (inl here)
-finds-either (r ∷ xs) ys c f (inr more) = go (finds-either xs ys c f more)
+pub finds-either : (xs ys : List Row) (asks : Asking) (c : Cell) (f : Compared) → Finds asks (xs ++ ys) c f →
+    Finds asks xs c f ⊎ Finds asks ys c f
+finds-either [] ys asks c f e = inr e
+finds-either (r ∷ xs) ys asks c f (inl here) = inl (inl here)
+finds-either (r ∷ xs) ys asks c f (inr more) = go (finds-either xs ys asks c f more)
   where
-    go : Finds xs c f ⊎ Finds ys c f → Finds (r ∷ xs) c f ⊎ Finds ys c f
+    go : Finds asks xs c f ⊎ Finds asks ys c f → Finds asks (r ∷ xs) c f ⊎ Finds asks ys c f
     go (inl e) = inl (inr e)
     go (inr e) = inr e
 
 pub absorbs-push : (rows : List Row) (row : Row) → Absorbs rows row (rows ++ row ∷ [])
 absorbs-push rows row = record {
-  kept = λ c f e. finds-first rows (row ∷ []) c f e;
-  added = λ c e. finds-last rows (row ∷ []) c row.found (inl (e, refl));
-  only = λ c f e. go c f (finds-either rows (row ∷ []) c f e);
+  kept = λ asks c f e. finds-first rows (row ∷ []) asks c f e;
+  added = λ asks c e. finds-last rows (row ∷ []) asks c row.found (inl (e, refl));
+  only = λ asks c f e. go asks c f (finds-either rows (row ∷ []) asks c f e);
 }
   where
-    go : (c : Cell) (f : Compared) → Finds rows c f ⊎ Finds (row ∷ []) c f → Finds rows c f ⊎ ((has_cell row c ≡ true) × (row.found ≡ f))
-    go c f (inl e) = inl e
-    go c f (inr (inl here)) = inr here
-    go c f (inr (inr none)) = absurd none
+    go : (asks : Asking) (c : Cell) (f : Compared) → Finds asks rows c f ⊎ Finds asks (row ∷ []) c f →
+        Finds asks rows c f ⊎ ((has_cell asks row c ≡ true) × (row.found ≡ f))
+    go asks c f (inl e) = inl e
+    go asks c f (inr (inl here)) = inr here
+    go asks c f (inr (inr none)) = absurd none
 
 -- the row at an index in place of which a joined one stands
 module _ (row : Row) where
-  set-kept : (rows : List Row) (i : ℕ) (d t : Row) → i < length rows → IsJoined (get_or rows i d) row t → (c : Cell) (f : Compared) →
-      Finds rows c f → Finds (slice_set rows i t) c f
-  set-kept [] i d t less j c f e = absurd e
-  set-kept (r ∷ rows) zero d t less j c f (inl here) = inl (j.cells c ∙ or_left (has_cell r c) (has_cell row c) here.0, j.first ∙ here.1)
-  set-kept (r ∷ rows) zero d t less j c f (inr more) = inr more
-  set-kept (r ∷ rows) (suc i) d t less j c f (inl here) = inl here
-  set-kept (r ∷ rows) (suc i) d t less j c f (inr more) = inr (set-kept rows i d t (omega (arith, less)) j c f more)
+  set-kept : (rows : List Row) (i : ℕ) (d t : Row) → i < length rows → IsJoined (get_or rows i d) row t →
+      (asks : Asking) (c : Cell) (f : Compared) →
+      Finds asks rows c f → Finds asks (slice_set rows i t) c f
+  set-kept [] i d t less j asks c f e = absurd e
+  set-kept (r ∷ rows) zero d t less j asks c f (inl here) =
+      inl (j.cells asks c ∙ or_left (has_cell asks r c) (has_cell asks row c) here.0, j.first ∙ here.1)
+  set-kept (r ∷ rows) zero d t less j asks c f (inr more) = inr more
+  set-kept (r ∷ rows) (suc i) d t less j asks c f (inl here) = inl here
+  set-kept (r ∷ rows) (suc i) d t less j asks c f (inr more) = inr (set-kept rows i d t (omega (arith, less)) j asks c f more)
 
-  set-added : (rows : List Row) (i : ℕ) (d t : Row) → i < length rows → IsJoined (get_or rows i d) row t → (c : Cell) →
-      has_cell row c ≡ true → Finds (slice_set rows i t) c row.found
-  set-added [] i d t less j c e = absurd (omega (arith, less))
-  set-added (r ∷ rows) zero d t less j c e = inl (j.cells c ∙ or_right (has_cell r c) (has_cell row c) e, j.second)
-  set-added (r ∷ rows) (suc i) d t less j c e = inr (set-added rows i d t (omega (arith, less)) j c e)
+  set-added : (rows : List Row) (i : ℕ) (d t : Row) → i < length rows → IsJoined (get_or rows i d) row t → (asks : Asking) (c : Cell) →
+      has_cell asks row c ≡ true → Finds asks (slice_set rows i t) c row.found
+  set-added [] i d t less j asks c e = absurd (omega (arith, less))
+  set-added (r ∷ rows) zero d t less j asks c e = inl (j.cells asks c ∙ or_right (has_cell asks r c) (has_cell asks row c) e, j.second)
+  set-added (r ∷ rows) (suc i) d t less j asks c e = inr (set-added rows i d t (omega (arith, less)) j asks c e)
 
-  set-only : (rows : List Row) (i : ℕ) (d t : Row) → i < length rows → IsJoined (get_or rows i d) row t → (c : Cell) (f : Compared) →
-      Finds (slice_set rows i t) c f → Finds rows c f ⊎ ((has_cell row c ≡ true) × (row.found ≡ f))
-  set-only [] i d t less j c f e = absurd (omega (arith, less))
-  set-only (r ∷ rows) zero d t less j c f (inl here) = go (or_cases (has_cell r c) (has_cell row c) (sym (j.cells c) ∙ here.0))
+  set-only : (rows : List Row) (i : ℕ) (d t : Row) → i < length rows → IsJoined (get_or rows i d) row t →
+      (asks : Asking) (c : Cell) (f : Compared) →
+      Finds asks (slice_set rows i t) c f → Finds asks rows c f ⊎ ((has_cell asks row c ≡ true) × (row.found ≡ f))
+  set-only [] i d t less j asks c f e = absurd (omega (arith, less))
+  set-only (r ∷ rows) zero d t less j asks c f (inl here) =
+      go (or_cases (has_cell asks r c) (has_cell asks row c) (sym (j.cells asks c) ∙ here.0))
     where
-      go : (has_cell r c ≡ true) ⊎ (has_cell row c ≡ true) → Finds (r ∷ rows) c f ⊎ ((has_cell row c ≡ true) × (row.found ≡ f))
+      go : (has_cell asks r c ≡ true) ⊎ (has_cell asks row c ≡ true) →
+          Finds asks (r ∷ rows) c f ⊎ ((has_cell asks row c ≡ true) × (row.found ≡ f))
       go (inl own) = inl (inl (own, sym j.first ∙ here.1))
       go (inr its) = inr (its, sym j.second ∙ here.1)
-  set-only (r ∷ rows) zero d t less j c f (inr more) = inl (inr more)
-  set-only (r ∷ rows) (suc i) d t less j c f (inl here) = inl (inl here)
-  set-only (r ∷ rows) (suc i) d t less j c f (inr more) = go (set-only rows i d t (omega (arith, less)) j c f more)
+  set-only (r ∷ rows) zero d t less j asks c f (inr more) = inl (inr more)
+  set-only (r ∷ rows) (suc i) d t less j asks c f (inl here) = inl (inl here)
+  set-only (r ∷ rows) (suc i) d t less j asks c f (inr more) = go (set-only rows i d t (omega (arith, less)) j asks c f more)
     where
-      go : Finds rows c f ⊎ ((has_cell row c ≡ true) × (row.found ≡ f)) → Finds (r ∷ rows) c f ⊎ ((has_cell row c ≡ true) × (row.found ≡ f))
+      go : Finds asks rows c f ⊎ ((has_cell asks row c ≡ true) × (row.found ≡ f)) →
+          Finds asks (r ∷ rows) c f ⊎ ((has_cell asks row c ≡ true) × (row.found ≡ f))
       go (inl e) = inl (inr e)
       go (inr e) = inr e
 
@@ -199,35 +207,35 @@ absorbs-set rows row i d t less j = record {
 
 pub absorbs-none : (rows : List Row) → AbsorbsAll rows [] rows
 absorbs-none rows = record {
-  kept = λ c f e. e;
-  added = λ c f e. absurd e;
-  only = λ c f e. inl e;
+  kept = λ asks c f e. e;
+  added = λ asks c f e. absurd e;
+  only = λ asks c f e. inl e;
 }
 
 pub absorbs-more : (rows more mid new : List Row) (row : Row) → AbsorbsAll rows more mid → Absorbs mid row new →
     AbsorbsAll rows (more ++ row ∷ []) new
 absorbs-more rows more mid new row all one = record {
-  kept = λ c f e. one.kept c f (all.kept c f e);
-  added = λ c f e. add c f (finds-either more (row ∷ []) c f e);
-  only = λ c f e. from c f (one.only c f e);
+  kept = λ asks c f e. one.kept asks c f (all.kept asks c f e);
+  added = λ asks c f e. add asks c f (finds-either more (row ∷ []) asks c f e);
+  only = λ asks c f e. from asks c f (one.only asks c f e);
 }
   where
-    add : (c : Cell) (f : Compared) → Finds more c f ⊎ Finds (row ∷ []) c f → Finds new c f
-    add c f (inl e) = one.kept c f (all.added c f e)
-    add c f (inr (inl here)) = at (one.added c here.0) here.1
+    add : (asks : Asking) (c : Cell) (f : Compared) → Finds asks more c f ⊎ Finds asks (row ∷ []) c f → Finds asks new c f
+    add asks c f (inl e) = one.kept asks c f (all.added asks c f e)
+    add asks c f (inr (inl here)) = at (one.added asks c here.0) here.1
       where
-        at : Finds new c row.found → row.found ≡ f → Finds new c f
+        at : Finds asks new c row.found → row.found ≡ f → Finds asks new c f
         at e is = rw (sym is) e
-    add c f (inr (inr none)) = absurd none
+    add asks c f (inr (inr none)) = absurd none
 
-    from : (c : Cell) (f : Compared) → Finds mid c f ⊎ ((has_cell row c ≡ true) × (row.found ≡ f)) →
-        Finds rows c f ⊎ Finds (more ++ row ∷ []) c f
-    from c f (inl e) = on (all.only c f e)
+    from : (asks : Asking) (c : Cell) (f : Compared) → Finds asks mid c f ⊎ ((has_cell asks row c ≡ true) × (row.found ≡ f)) →
+        Finds asks rows c f ⊎ Finds asks (more ++ row ∷ []) c f
+    from asks c f (inl e) = on (all.only asks c f e)
       where
-        on : Finds rows c f ⊎ Finds more c f → Finds rows c f ⊎ Finds (more ++ row ∷ []) c f
+        on : Finds asks rows c f ⊎ Finds asks more c f → Finds asks rows c f ⊎ Finds asks (more ++ row ∷ []) c f
         on (inl e) = inl e
-        on (inr e) = inr (finds-first more (row ∷ []) c f e)
-    from c f (inr here) = inr (finds-last more (row ∷ []) c f (inl here))
+        on (inr e) = inr (finds-first more (row ∷ []) asks c f e)
+    from asks c f (inr here) = inr (finds-last more (row ∷ []) asks c f (inl here))
 
 -- ---- Elements of a list with one more
 

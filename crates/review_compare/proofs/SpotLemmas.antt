@@ -12,6 +12,7 @@ use Rattle.review_roots.proofs.ListSteps.{take-more}
 use Rattle.review_compare.specs.declared.ask_class.AskClass.{AskClass}
 use Rattle.review_compare.specs.declared.ask_class.AskedWith.{AskedWith}
 use Rattle.review_compare.specs.declared.cell.Ask.{Ask}
+use Rattle.review_compare.specs.declared.cell.AskedGroups.{AskedGroups}
 use Rattle.review_compare.specs.declared.cell.Cell.{Cell}
 use Rattle.review_compare.specs.declared.compared.Compared.{Compared}
 use Rattle.review_compare.specs.declared.compared.Compared.TheVariants as compared
@@ -19,7 +20,7 @@ use Rattle.review_compare.specs.declared.pair.Pair.{Pair}
 use Rattle.review_compare.specs.declared.row.Row.{Row}
 use Rattle.review_compare.specs.declared.spot.Spot.{Spot}
 use Rattle.review_compare.specs.Cells.{Decider, deciders}
-use Rattle.review_compare.specs.Differences.{Finds, FoundIf, IsDone, IsFound, SameIf, has_cell, question_at, same_number}
+use Rattle.review_compare.specs.Differences.{Asking, Finds, FoundIf, IsDone, IsFound, SameIf, has_cell, question_at, same_number}
 use Rattle.review_compare.specs.Witnesses.{IsCompared}
 use Rattle.review_compare.specs.Body.AskClasses.{AreAsked, HaveAsk, IsAskClass, IsAskedWith, changed_by, kept_new, kept_old, on_new}
 use Rattle.review_compare.specs.Body.AskClasses.{on_old}
@@ -27,19 +28,15 @@ use Rattle.review_compare.specs.Body.Comparisons.{IsCopy}
 use Rattle.review_compare.specs.Body.Classes.{AreRightIn, IsFoundAt, IsRightIn}
 use Rattle.review_compare.specs.Body.Near.{IsFoundNear}
 use Rattle.review_compare.specs.Body.Merged.{Absorbs, AddsFound, AreMerged, AreOrdered, IsOnAmong, IsOrdered, IsRowOf, is_among}
-use Rattle.review_compare.specs.Body.Progress.{IsSpot, Progress, question_of}
+use Rattle.review_compare.specs.Body.Progress.{IsSpot, Progress, asking, question_of}
 use Rattle.review_compare.proofs.AskLemmas.{asked-cases, asked-first, asked-last, classes-cases}
 use Rattle.review_compare.proofs.ClassLemmas.{asked-here, or-false, same-self, single}
-use Rattle.review_compare.proofs.DifferenceLemmas.{all-added, nothing-added, numbers-same, went-on}
+use Rattle.review_compare.proofs.DifferenceLemmas.{all-added, nothing-added, numbers-same, same-number, went-on}
 use Rattle.review_compare.proofs.NearLemmas.{found-all, found-kept, found-moved, near-twice, near_new, near_old, pair-kept}
 use Rattle.review_compare.proofs.NearLemmas.{pair-kept-all, pair-near}
 use Rattle.review_compare.proofs.UnchangedLemmas.{less-or}
 
 -- ---- The cells of a row
-
-same-number : (o : Option ℕ) → same_number o o ≡ true
-same-number None = refl
-same-number (Some n) = same-self n
 
 contains-any : (q : Option ℕ) (ks : List (Option ℕ)) (k : ℕ) → k < length ks → slice_index_or ks k q ≡ q →
     list_any (same_number q) ks ≡ true
@@ -49,101 +46,102 @@ contains-any q (y ∷ ys) zero less is =
 contains-any q (y ∷ ys) (suc k) less is =
     or_right (same_number q y) (list_any (same_number q) ys) (contains-any q ys k (omega (arith, less)) is)
 
-one-number : (q g : Option ℕ) → list_any (same_number q) (g ∷ []) ≡ same_number q g
-one-number q g = or-false (same_number q g)
+module _ (asks : Asking) where
+  one-of : (c : Cell) (groups : AskedGroups) → list_any (asks c.ask.target c.ask.group) (groups ∷ []) ≡ asks c.ask.target c.ask.group groups
+  one-of c groups = or-false (asks c.ask.target c.ask.group groups)
 
-row-has : (user : ℕ) (hosts : List ℕ) (w : AskedWith) (f : Compared) (r : Row) → IsRowOf user hosts w f r → (c : Cell) →
-    IsOnAmong user hosts (IsAskedWith w) c → has_cell r c ≡ true
-row-has user hosts w f r row c on =
-    let own : list_any (λ u. u == c.user) r.users ≡ true =
-    ap (list_any (λ u. u == c.user)) row.users ∙ single user c.user ∙ ap (λ n. n == c.user) (sym on.0) ∙ same-self c.user in
-    let there : list_any (λ m. m == c.host) r.hosts ≡ true = ap (list_any (λ m. m == c.host)) row.hosts_are ∙ on.1 in
-    let asked = on.2.1 in
-    let targets : list_any (same_number c.ask.target) r.targets ≡ true =
-    ap (list_any (same_number c.ask.target)) row.targets ∙ contains-any c.ask.target w.targets.items asked.0 asked.1 asked.2 in
-    let groups : list_any (same_number c.ask.group) r.groups ≡ true =
-    ap (list_any (same_number c.ask.group)) row.groups ∙ one-number c.ask.group w.group
-    ∙ ap (same_number c.ask.group) on.2.0 ∙ same-number c.ask.group in
-    and_from (list_any (λ u. u == c.user) r.users && list_any (λ m. m == c.host) r.hosts)
-    (list_any (same_number c.ask.target) r.targets && list_any (same_number c.ask.group) r.groups)
-    (and_from (list_any (λ u. u == c.user) r.users) (list_any (λ m. m == c.host) r.hosts) own there)
-    (and_from (list_any (same_number c.ask.target) r.targets) (list_any (same_number c.ask.group) r.groups) targets groups)
+  row-has : (user : ℕ) (hosts : List ℕ) (w : AskedWith) (f : Compared) (r : Row) → IsRowOf user hosts w f r → (c : Cell) →
+      IsOnAmong user hosts (IsAskedWith asks w) c → has_cell asks r c ≡ true
+  row-has user hosts w f r row c on =
+      let own : list_any (λ u. u == c.user) r.users ≡ true =
+      ap (list_any (λ u. u == c.user)) row.users ∙ single user c.user ∙ ap (λ n. n == c.user) (sym on.0) ∙ same-self c.user in
+      let there : list_any (λ m. m == c.host) r.hosts ≡ true = ap (list_any (λ m. m == c.host)) row.hosts_are ∙ on.1 in
+      let asked = on.2.1 in
+      let targets : list_any (same_number c.ask.target) r.targets ≡ true =
+      ap (list_any (same_number c.ask.target)) row.targets ∙ contains-any c.ask.target w.targets.items asked.0 asked.1 asked.2 in
+      let groups : list_any (asks c.ask.target c.ask.group) r.groups ≡ true =
+      ap (list_any (asks c.ask.target c.ask.group)) row.groups ∙ one-of c w.groups ∙ on.2.0 in
+      and_from (list_any (λ u. u == c.user) r.users && list_any (λ m. m == c.host) r.hosts)
+      (list_any (same_number c.ask.target) r.targets && list_any (asks c.ask.target c.ask.group) r.groups)
+      (and_from (list_any (λ u. u == c.user) r.users) (list_any (λ m. m == c.host) r.hosts) own there)
+      (and_from (list_any (same_number c.ask.target) r.targets) (list_any (asks c.ask.target c.ask.group) r.groups) targets groups)
 
-has-row : (user : ℕ) (hosts : List ℕ) (w : AskedWith) (f : Compared) (r : Row) → IsRowOf user hosts w f r → (c : Cell) →
-    has_cell r c ≡ true → IsOnAmong user hosts (IsAskedWith w) c
-has-row user hosts w f r row c has =
-    let both = and_parts (list_any (λ u. u == c.user) r.users && list_any (λ m. m == c.host) r.hosts)
-    (list_any (same_number c.ask.target) r.targets && list_any (same_number c.ask.group) r.groups) has in
-    let spot = and_parts (list_any (λ u. u == c.user) r.users) (list_any (λ m. m == c.host) r.hosts) both.0 in
-    let asked = and_parts (list_any (same_number c.ask.target) r.targets) (list_any (same_number c.ask.group) r.groups) both.1 in
-    let user_is : (user == c.user) ≡ true = sym (single user c.user) ∙ ap (list_any (λ u. u == c.user)) (sym row.users) ∙ spot.0 in
-    let group_is : same_number c.ask.group w.group ≡ true =
-    sym (one-number c.ask.group w.group) ∙ ap (list_any (same_number c.ask.group)) (sym row.groups) ∙ asked.1 in (
-      sym (eqb-true user c.user user_is),
-      ap (list_any (λ m. m == c.host)) (sym row.hosts_are) ∙ spot.1,
-      (
-        sym (numbers-same c.ask.group w.group group_is),
-        Contains-from_any numbers-same c.ask.target w.targets.items
-            (ap (list_any (same_number c.ask.target)) (sym row.targets) ∙ asked.0),
-      ),
-    )
+  has-row : (user : ℕ) (hosts : List ℕ) (w : AskedWith) (f : Compared) (r : Row) → IsRowOf user hosts w f r → (c : Cell) →
+      has_cell asks r c ≡ true → IsOnAmong user hosts (IsAskedWith asks w) c
+  has-row user hosts w f r row c has =
+      let both = and_parts (list_any (λ u. u == c.user) r.users && list_any (λ m. m == c.host) r.hosts)
+      (list_any (same_number c.ask.target) r.targets && list_any (asks c.ask.target c.ask.group) r.groups) has in
+      let spot = and_parts (list_any (λ u. u == c.user) r.users) (list_any (λ m. m == c.host) r.hosts) both.0 in
+      let asked = and_parts (list_any (same_number c.ask.target) r.targets) (list_any (asks c.ask.target c.ask.group) r.groups) both.1 in
+      let user_is : (user == c.user) ≡ true = sym (single user c.user) ∙ ap (list_any (λ u. u == c.user)) (sym row.users) ∙ spot.0 in
+      let group_is : asks c.ask.target c.ask.group w.groups ≡ true =
+      sym (one-of c w.groups) ∙ ap (list_any (asks c.ask.target c.ask.group)) (sym row.groups) ∙ asked.1 in (
+        sym (eqb-true user c.user user_is),
+        ap (list_any (λ m. m == c.host)) (sym row.hosts_are) ∙ spot.1,
+        (
+          group_is,
+          Contains-from_any numbers-same c.ask.target w.targets.items
+              (ap (list_any (same_number c.ask.target)) (sym row.targets) ∙ asked.0),
+        ),
+      )
 
--- a row of the targets with a group is absorbed
-pub adds-row : (old new : List Row) (user : ℕ) (hosts : List ℕ) (w : AskedWith) (f g : Compared) (r : Row) → IsRowOf user hosts w g r →
-    IsCopy f g → Absorbs old r new → AddsFound old user hosts (IsAskedWith w) f new
-adds-row old new user hosts w f g r row copy absorbs = record {
-  kept = absorbs.kept;
-  added = λ c on. (r.found, absorbs.added c (row-has user hosts w g r row c on));
-  only = λ c h e. go c h (absorbs.only c h e);
-}
-  where
-    go : (c : Cell) (h : Compared) → Finds old c h ⊎ ((has_cell r c ≡ true) × (r.found ≡ h)) →
-        Finds old c h ⊎ (IsOnAmong user hosts (IsAskedWith w) c × IsCopy f h)
-    go c h (inl e) = inl e
-    go c h (inr here) =
-        inr (has-row user hosts w g r row c here.0, subst (IsCopy f) here.1 (subst (IsCopy f) (sym row.found) copy))
+  -- a row of targets with their groups is absorbed
+  pub adds-row : (old new : List Row) (user : ℕ) (hosts : List ℕ) (w : AskedWith) (f g : Compared) (r : Row) → IsRowOf user hosts w g r →
+      IsCopy f g → Absorbs old r new → AddsFound asks old user hosts (IsAskedWith asks w) f new
+  adds-row old new user hosts w f g r row copy absorbs = record {
+    kept = absorbs.kept asks;
+    added = λ c on. (r.found, absorbs.added asks c (row-has user hosts w g r row c on));
+    only = λ c h e. go c h (absorbs.only asks c h e);
+  }
+    where
+      go : (c : Cell) (h : Compared) → Finds asks old c h ⊎ ((has_cell asks r c ≡ true) × (r.found ≡ h)) →
+          Finds asks old c h ⊎ (IsOnAmong user hosts (IsAskedWith asks w) c × IsCopy f h)
+      go c h (inl e) = inl e
+      go c h (inr here) =
+          inr (has-row user hosts w g r row c here.0, subst (IsCopy f) here.1 (subst (IsCopy f) (sym row.found) copy))
 
-pub adds-none : (rows : List Row) (user : ℕ) (hosts : List ℕ) (f : Compared) → AddsFound rows user hosts (AreAsked []) f rows
-adds-none rows user hosts f = record {
-  kept = λ c g e. e;
-  added = λ c on. absurd on.2;
-  only = λ c g e. inl e;
-}
+  pub adds-none : (rows : List Row) (user : ℕ) (hosts : List ℕ) (f : Compared) →
+      AddsFound asks rows user hosts (AreAsked asks []) f rows
+  adds-none rows user hosts f = record {
+    kept = λ c g e. e;
+    added = λ c on. absurd on.2;
+    only = λ c g e. inl e;
+  }
 
--- the targets with one group more
-pub adds-more : (old mid new : List Row) (user : ℕ) (hosts : List ℕ) (ws : List AskedWith) (k : ℕ) (w : AskedWith) (f : Compared) →
-    k < length ws → w ≡ get_or ws k w → AddsFound old user hosts (AreAsked (take k ws)) f mid →
-    AddsFound mid user hosts (IsAskedWith w) f new → AddsFound old user hosts (AreAsked (take (k + 1) ws)) f new
-adds-more old mid new user hosts ws k w f less is so_far one =
-    subst (λ (vs : List AskedWith). AddsFound old user hosts (AreAsked vs) f new) (sym (take-more ws k w less is)) both
-  where
-    add : (c : Cell) → c.user ≡ user → is_among hosts c.host ≡ true → AreAsked (take k ws) c.ask ⊎ IsAskedWith w c.ask →
-        (g : Compared) × Finds new c g
-    add c u m (inl before) = let e = so_far.added c (u, m, before) in (e.0, one.kept c e.0 e.1)
-    add c u m (inr here) = one.added c (u, m, here)
+  -- further targets with their groups
+  pub adds-more : (old mid new : List Row) (user : ℕ) (hosts : List ℕ) (ws : List AskedWith) (k : ℕ) (w : AskedWith) (f : Compared) →
+      k < length ws → w ≡ get_or ws k w → AddsFound asks old user hosts (AreAsked asks (take k ws)) f mid →
+      AddsFound asks mid user hosts (IsAskedWith asks w) f new → AddsFound asks old user hosts (AreAsked asks (take (k + 1) ws)) f new
+  adds-more old mid new user hosts ws k w f less is so_far one =
+      subst (λ (vs : List AskedWith). AddsFound asks old user hosts (AreAsked asks vs) f new) (sym (take-more ws k w less is)) both
+    where
+      add : (c : Cell) → c.user ≡ user → is_among hosts c.host ≡ true → AreAsked asks (take k ws) c.ask ⊎ IsAskedWith asks w c.ask →
+          (g : Compared) × Finds asks new c g
+      add c u m (inl before) = let e = so_far.added c (u, m, before) in (e.0, one.kept c e.0 e.1)
+      add c u m (inr here) = one.added c (u, m, here)
 
-    from : (c : Cell) (g : Compared) → Finds old c g ⊎ (IsOnAmong user hosts (AreAsked (take k ws)) c × IsCopy f g) →
-        Finds old c g ⊎ (IsOnAmong user hosts (AreAsked (take k ws ++ w ∷ [])) c × IsCopy f g)
-    from c g (inl e) = inl e
-    from c g (inr on) = inr ((on.0.0, on.0.1, asked-first (take k ws) w c.ask on.0.2), on.1)
+      from : (c : Cell) (g : Compared) → Finds asks old c g ⊎ (IsOnAmong user hosts (AreAsked asks (take k ws)) c × IsCopy f g) →
+          Finds asks old c g ⊎ (IsOnAmong user hosts (AreAsked asks (take k ws ++ w ∷ [])) c × IsCopy f g)
+      from c g (inl e) = inl e
+      from c g (inr on) = inr ((on.0.0, on.0.1, asked-first asks (take k ws) w c.ask on.0.2), on.1)
 
-    only : (c : Cell) (g : Compared) → Finds mid c g ⊎ (IsOnAmong user hosts (IsAskedWith w) c × IsCopy f g) →
-        Finds old c g ⊎ (IsOnAmong user hosts (AreAsked (take k ws ++ w ∷ [])) c × IsCopy f g)
-    only c g (inl e) = from c g (so_far.only c g e)
-    only c g (inr on) = inr ((on.0.0, on.0.1, asked-last (take k ws) w c.ask on.0.2), on.1)
+      only : (c : Cell) (g : Compared) → Finds asks mid c g ⊎ (IsOnAmong user hosts (IsAskedWith asks w) c × IsCopy f g) →
+          Finds asks old c g ⊎ (IsOnAmong user hosts (AreAsked asks (take k ws ++ w ∷ [])) c × IsCopy f g)
+      only c g (inl e) = from c g (so_far.only c g e)
+      only c g (inr on) = inr ((on.0.0, on.0.1, asked-last asks (take k ws) w c.ask on.0.2), on.1)
 
-    both : AddsFound old user hosts (AreAsked (take k ws ++ w ∷ [])) f new
-    both = record {
-      kept = λ c g e. one.kept c g (so_far.kept c g e);
-      added = λ c on. add c on.0 on.1 (asked-cases (take k ws) w c.ask on.2);
-      only = λ c g e. only c g (one.only c g e);
-    }
+      both : AddsFound asks old user hosts (AreAsked asks (take k ws ++ w ∷ [])) f new
+      both = record {
+        kept = λ c g e. one.kept c g (so_far.kept c g e);
+        added = λ c on. add c on.0 on.1 (asked-cases asks (take k ws) w c.ask on.2);
+        only = λ c g e. only c g (one.only c g e);
+      }
 
 -- ---- A class of asks
 
 -- the outcome for the blocks of a class is right for each of its asks
 class-compared : (p : Pair) (s : Spot) (k : AskClass) (f : Compared) → IsAskClass p s.person.now k →
-    IsCompared (on_old p s.machine.now k.allowing) (on_new p s.machine.now k.allowing) f → (a : Ask) → AreAsked k.asked.items a →
+    IsCompared (on_old p s.machine.now k.allowing) (on_new p s.machine.now k.allowing) f → (a : Ask) → AreAsked (asking p) k.asked.items a →
     IsFoundNear (changed_by p) (deciders p.old.checked.now (question_of p s a)) (deciders p.new.checked.now (question_of p s a)) f
 class-compared p s k f class is a asked =
     let q = question_of p s a in
@@ -159,13 +157,13 @@ class-compared p s k f class is a asked =
 -- and so it is in each of its cells at the spot
 pub class-right : (p : Pair) (s : Spot) (k : AskClass) (f : Compared) → IsSpot p s → IsAskClass p s.person.now k →
     IsCompared (on_old p s.machine.now k.allowing) (on_new p s.machine.now k.allowing) f →
-    IsRightIn p s.user (s.host ∷ []) (AreAsked k.asked.items) f
+    IsRightIn p s.user (s.host ∷ []) (AreAsked (asking p) k.asked.items) f
 class-right p s k f at class is c on =
     let here : c.host ≡ s.host = sym (eqb-true s.host c.host (sym (single s.host c.host) ∙ on.1)) in
     subst (λ (o : Option Question). IsFoundAt p o f) (sym (asked-here p s c at on.0 here)) (class-compared p s k f class is c.ask on.2)
 
 founds-push : (p : Pair) (user : ℕ) (hosts : List ℕ) (ks : List AskClass) (fs : List Compared) (k : AskClass) (f : Compared) →
-    AreRightIn p user hosts ks fs → IsRightIn p user hosts (AreAsked k.asked.items) f →
+    AreRightIn p user hosts ks fs → IsRightIn p user hosts (AreAsked (asking p) k.asked.items) f →
     AreRightIn p user hosts (ks ++ k ∷ []) (fs ++ f ∷ [])
 founds-push p user hosts ks fs k f are is = (long, λ n d e less. go n d e (less-or n (length ks) (omega (arith, less, more))))
   where
@@ -176,21 +174,22 @@ founds-push p user hosts ks fs k f are is = (long, λ n d e less. go n d e (less
     long = length-append fs (f ∷ []) ∙ ap (λ (n : ℕ). n + 1) are.0 ∙ sym more
 
     go : (n : ℕ) (d : AskClass) (e : Compared) → (n < length ks) ⊎ (n ≡ length ks) →
-        IsRightIn p user hosts (AreAsked (get_or (ks ++ k ∷ []) n d).asked.items) (get_or (fs ++ f ∷ []) n e)
+        IsRightIn p user hosts (AreAsked (asking p) (get_or (ks ++ k ∷ []) n d).asked.items) (get_or (fs ++ f ∷ []) n e)
     go n d e (inl before) =
-        subst (λ (j : AskClass). IsRightIn p user hosts (AreAsked j.asked.items) (get_or (fs ++ f ∷ []) n e))
+        subst (λ (j : AskClass). IsRightIn p user hosts (AreAsked (asking p) j.asked.items) (get_or (fs ++ f ∷ []) n e))
         (sym (get_or_append_left ks (k ∷ []) d n before))
-        (subst (λ (g : Compared). IsRightIn p user hosts (AreAsked (get_or ks n d).asked.items) g)
+        (subst (λ (g : Compared). IsRightIn p user hosts (AreAsked (asking p) (get_or ks n d).asked.items) g)
         (sym (get_or_append_left fs (f ∷ []) e n (omega (arith, before, are.0)))) (are.1 n d e before))
     go n d e (inr here) =
-        subst (λ (j : AskClass). IsRightIn p user hosts (AreAsked j.asked.items) (get_or (fs ++ f ∷ []) n e))
+        subst (λ (j : AskClass). IsRightIn p user hosts (AreAsked (asking p) j.asked.items) (get_or (fs ++ f ∷ []) n e))
         (sym (get_or_push ks k d n (sym here)))
-        (subst (λ (g : Compared). IsRightIn p user hosts (AreAsked k.asked.items) g) (sym (get_or_push fs f e n (are.0 ∙ sym here))) is)
+        (subst (λ (g : Compared). IsRightIn p user hosts (AreAsked (asking p) k.asked.items) g) (sym (get_or_push fs f e n
+        (are.0 ∙ sym here))) is)
 
 -- what is found for one class more
 pub founds-more : (p : Pair) (user : ℕ) (hosts : List ℕ) (ks : List AskClass) (fs : List Compared) (n : ℕ) (k : AskClass)
     (f : Compared) → n < length ks → k ≡ get_or ks n k → AreRightIn p user hosts (take n ks) fs →
-    IsRightIn p user hosts (AreAsked k.asked.items) f → AreRightIn p user hosts (take (n + 1) ks) (fs ++ f ∷ [])
+    IsRightIn p user hosts (AreAsked (asking p) k.asked.items) f → AreRightIn p user hosts (take (n + 1) ks) (fs ++ f ∷ [])
 founds-more p user hosts ks fs n k f less is so_far one =
     subst (λ (js : List AskClass). AreRightIn p user hosts js (fs ++ f ∷ [])) (sym (take-more ks n k less is))
     (founds-push p user hosts (take n ks) fs k f so_far one)
@@ -208,15 +207,16 @@ copied-found p (Some q) f g copy is =
 
 -- rows with what is found for a class
 pub class-found : (p : Pair) (user : ℕ) (hosts : List ℕ) (asked : Ask → Type 0) (rows new : List Row) (f : Compared) →
-    IsRightIn p user hosts asked f → AddsFound rows user hosts asked f new → Progress p rows new (IsOnAmong user hosts asked)
+    IsRightIn p user hosts asked f → AddsFound (asking p) rows user hosts asked f new → Progress p rows new (IsOnAmong user hosts asked)
 class-found p user hosts asked rows new f is adds = record {
   kept = adds.kept;
   right = λ right c g e. go right c g (adds.only c g e);
   done = λ c on. inr (adds.added c on);
 }
   where
-    go : ((c : Cell) (g : Compared) → Finds rows c g → IsFound p.old.checked.now p.new.checked.now p.directory.now p.groups.now c g) →
-        (c : Cell) (g : Compared) → Finds rows c g ⊎ (IsOnAmong user hosts asked c × IsCopy f g) →
+    go : ((c : Cell) (g : Compared) → Finds (asking p) rows c g →
+        IsFound p.old.checked.now p.new.checked.now p.directory.now p.groups.now c g) →
+        (c : Cell) (g : Compared) → Finds (asking p) rows c g ⊎ (IsOnAmong user hosts asked c × IsCopy f g) →
         IsFound p.old.checked.now p.new.checked.now p.directory.now p.groups.now c g
     go right c g (inl e) = right c g e
     go right c g (inr on) = copied-found p (question_at p.directory.now p.groups.now c) f g on.1 (is c on.0)
@@ -234,63 +234,67 @@ class-same p user hosts asked rows f is same = nothing-added p rows (IsOnAmong u
 
 -- one class more
 pub class-more : (p : Pair) (rows new : List Row) (user : ℕ) (hosts : List ℕ) (ks : List AskClass) (n : ℕ) (k : AskClass) →
-    n < length ks → k ≡ get_or ks n k → Progress p [] rows (IsOnAmong user hosts (HaveAsk (take n ks))) →
-    Progress p rows new (IsOnAmong user hosts (AreAsked k.asked.items)) →
-    Progress p [] new (IsOnAmong user hosts (HaveAsk (take (n + 1) ks)))
+    n < length ks → k ≡ get_or ks n k → Progress p [] rows (IsOnAmong user hosts (HaveAsk (asking p) (take n ks))) →
+    Progress p rows new (IsOnAmong user hosts (AreAsked (asking p) k.asked.items)) →
+    Progress p [] new (IsOnAmong user hosts (HaveAsk (asking p) (take (n + 1) ks)))
 class-more p rows new user hosts ks n k less is so_far one =
-    went-on p [] rows new (IsOnAmong user hosts (HaveAsk (take n ks))) (IsOnAmong user hosts (AreAsked k.asked.items))
-    (IsOnAmong user hosts (HaveAsk (take (n + 1) ks))) either so_far one
+    went-on p [] rows new (IsOnAmong user hosts (HaveAsk (asking p) (take n ks))) (IsOnAmong user hosts (AreAsked (asking p) k.asked.items))
+    (IsOnAmong user hosts (HaveAsk (asking p) (take (n + 1) ks))) either so_far one
   where
-    split : (c : Cell) → c.user ≡ user → is_among hosts c.host ≡ true → HaveAsk (take n ks) c.ask ⊎ AreAsked k.asked.items c.ask →
-        IsOnAmong user hosts (HaveAsk (take n ks)) c ⊎ IsOnAmong user hosts (AreAsked k.asked.items) c
+    split : (c : Cell) → c.user ≡ user → is_among hosts c.host ≡ true →
+        HaveAsk (asking p) (take n ks) c.ask ⊎ AreAsked (asking p) k.asked.items c.ask →
+        IsOnAmong user hosts (HaveAsk (asking p) (take n ks)) c ⊎ IsOnAmong user hosts (AreAsked (asking p) k.asked.items) c
     split c u m (inl there) = inl (u, m, there)
     split c u m (inr here) = inr (u, m, here)
 
-    either : (c : Cell) → IsOnAmong user hosts (HaveAsk (take (n + 1) ks)) c →
-        IsOnAmong user hosts (HaveAsk (take n ks)) c ⊎ IsOnAmong user hosts (AreAsked k.asked.items) c
+    either : (c : Cell) → IsOnAmong user hosts (HaveAsk (asking p) (take (n + 1) ks)) c →
+        IsOnAmong user hosts (HaveAsk (asking p) (take n ks)) c ⊎ IsOnAmong user hosts (AreAsked (asking p) k.asked.items) c
     either c on = split c on.0 on.1
-        (classes-cases (take n ks) k c.ask (subst (λ (js : List AskClass). HaveAsk js c.ask) (take-more ks n k less is) on.2))
+        (classes-cases (asking p) (take n ks) k c.ask (subst (λ (js : List AskClass). HaveAsk (asking p) js c.ask)
+        (take-more ks n k less is) on.2))
 
 -- ---- Rows with their targets in order
 
-ordered-has : (r s : Row) → IsOrdered r s → (c : Cell) → has_cell s c ≡ has_cell r c
-ordered-has r s is c =
+ordered-has : (asks : Asking) (r s : Row) → IsOrdered r s → (c : Cell) → has_cell asks s c ≡ has_cell asks r c
+ordered-has asks r s is c =
     ap (λ us. (list_any (λ u. u == c.user) us && list_any (λ m. m == c.host) s.hosts)
-    && (list_any (same_number c.ask.target) s.targets && list_any (same_number c.ask.group) s.groups)) is.users
+    && (list_any (same_number c.ask.target) s.targets && list_any (asks c.ask.target c.ask.group) s.groups)) is.users
     ∙ ap (λ b. (list_any (λ u. u == c.user) r.users && b)
-    && (list_any (same_number c.ask.target) s.targets && list_any (same_number c.ask.group) s.groups))
+    && (list_any (same_number c.ask.target) s.targets && list_any (asks c.ask.target c.ask.group) s.groups))
     (sym (list_any-IsPermutation (λ m. m == c.host) r.hosts s.hosts is.hosts))
     ∙ ap (λ b. (list_any (λ u. u == c.user) r.users && list_any (λ m. m == c.host) r.hosts)
-    && (b && list_any (same_number c.ask.group) s.groups)) (sym (list_any-IsPermutation (same_number c.ask.target) r.targets s.targets
+    && (b && list_any (asks c.ask.target c.ask.group) s.groups)) (sym (list_any-IsPermutation (same_number c.ask.target) r.targets s.targets
     is.targets))
     ∙ ap (λ gs. (list_any (λ u. u == c.user) r.users && list_any (λ m. m == c.host) r.hosts)
-    && (list_any (same_number c.ask.target) r.targets && list_any (same_number c.ask.group) gs)) is.groups
+    && (list_any (same_number c.ask.target) r.targets && list_any (asks c.ask.target c.ask.group) gs)) is.groups
 
-finds-ordered : (rows os : List Row) → AreOrdered rows os → (c : Cell) (f : Compared) → Finds rows c f → Finds os c f
-finds-ordered [] [] are c f e = e
-finds-ordered [] (s ∷ os) are c f e = absurd are
-finds-ordered (r ∷ rows) [] are c f e = absurd are
-finds-ordered (r ∷ rows) (s ∷ os) are c f (inl here) = inl (ordered-has r s are.0 c ∙ here.0, (are.0).found ∙ here.1)
-finds-ordered (r ∷ rows) (s ∷ os) are c f (inr more) = inr (finds-ordered rows os are.1 c f more)
+finds-ordered : (asks : Asking) (rows os : List Row) → AreOrdered rows os → (c : Cell) (f : Compared) → Finds asks rows c f →
+    Finds asks os c f
+finds-ordered asks [] [] are c f e = e
+finds-ordered asks [] (s ∷ os) are c f e = absurd are
+finds-ordered asks (r ∷ rows) [] are c f e = absurd are
+finds-ordered asks (r ∷ rows) (s ∷ os) are c f (inl here) = inl (ordered-has asks r s are.0 c ∙ here.0, (are.0).found ∙ here.1)
+finds-ordered asks (r ∷ rows) (s ∷ os) are c f (inr more) = inr (finds-ordered asks rows os are.1 c f more)
 
-ordered-finds : (rows os : List Row) → AreOrdered rows os → (c : Cell) (f : Compared) → Finds os c f → Finds rows c f
-ordered-finds [] [] are c f e = e
-ordered-finds [] (s ∷ os) are c f e = absurd are
-ordered-finds (r ∷ rows) [] are c f e = absurd are
-ordered-finds (r ∷ rows) (s ∷ os) are c f (inl here) = inl (sym (ordered-has r s are.0 c) ∙ here.0, sym (are.0).found ∙ here.1)
-ordered-finds (r ∷ rows) (s ∷ os) are c f (inr more) = inr (ordered-finds rows os are.1 c f more)
+ordered-finds : (asks : Asking) (rows os : List Row) → AreOrdered rows os → (c : Cell) (f : Compared) → Finds asks os c f →
+    Finds asks rows c f
+ordered-finds asks [] [] are c f e = e
+ordered-finds asks [] (s ∷ os) are c f e = absurd are
+ordered-finds asks (r ∷ rows) [] are c f e = absurd are
+ordered-finds asks (r ∷ rows) (s ∷ os) are c f (inl here) = inl (sym (ordered-has asks r s are.0 c) ∙ here.0, sym (are.0).found ∙ here.1)
+ordered-finds asks (r ∷ rows) (s ∷ os) are c f (inr more) = inr (ordered-finds asks rows os are.1 c f more)
 
 pub ordered-done : (p : Pair) (rows os : List Row) (P : Cell → Type 0) → AreOrdered rows os → Progress p [] rows P → Progress p [] os P
 ordered-done p rows os P are so_far = record {
   kept = λ c f e. absurd e;
-  right = λ right c f e. so_far.right right c f (ordered-finds rows os are c f e);
+  right = λ right c f e. so_far.right right c f (ordered-finds (asking p) rows os are c f e);
   done = λ c at. go c (so_far.done c at);
 }
   where
     go : (c : Cell) → IsDone p.old.checked.now p.new.checked.now p.directory.now p.groups.now rows c →
         IsDone p.old.checked.now p.new.checked.now p.directory.now p.groups.now os c
     go c (inl same) = inl same
-    go c (inr e) = inr (e.0, finds-ordered rows os are c e.0 e.1)
+    go c (inr e) = inr (e.0, finds-ordered (asking p) rows os are c e.0 e.1)
 
 -- rows of which some became one
 pub merged-done : (p : Pair) (rows new : List Row) (P : Cell → Type 0) → AreMerged rows new → Progress p [] rows P → Progress p [] new P

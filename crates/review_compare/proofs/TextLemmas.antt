@@ -1,7 +1,9 @@
 -- Names with a comma and a space between them, and the records of rows.
 use Rattle.std.proofs.Common.{◌≡◌, ◌∙◌, ℕ, Bool, true, false, cond, List, [], ◌∷◌, ◌++◌, ap, flat_map, length, map, refl, sym}
-use Rattle.std.specs.Prelude.{◌==◌, Option, None, Some, codes, drop, filter}
-use Rattle.std.proofs.lemmas.Bool.{eqb-true}
+use Rattle.std.proofs.Common.{arith, ◌+◌, suc}
+use Rattle.std.specs.Prelude.{◌*◌, Option, None, Some, codes, drop, filter, nat_lt, not}
+use Rattle.std.specs.List.{list_any, range_with_len}
+use Rattle.std.proofs.lemmas.List.Elements.{filter-append}
 use Rattle.review_grants.specs.GrantRows.{joined}
 use Rattle.csv.specs.Writing.{default_writer, fields_text}
 use Rattle.sudo_text.specs.declared.line.Place.{Place}
@@ -17,27 +19,36 @@ use Rattle.review_compare.specs.declared.compared.Decider.{Decider}
 use Rattle.review_compare.specs.declared.row.Row.{Row}
 use Rattle.review_compare.specs.declared.text.Names.{Names}
 use Rattle.review_compare.specs.declared.witness.Witness.{Witness}
-use Rattle.review_compare.specs.Table.{Source, found_lines, name_at, names_text, row_head, row_lines, row_marks, row_texts, row_verdict}
+use Rattle.review_roots.proofs.ListSteps.{range-more}
+use Rattle.review_compare.specs.Body.Merged.{is_among}
+use Rattle.review_compare.specs.Table.{Source, all_but, found_lines, missing, name_at, names_text, row_head, row_lines}
+use Rattle.review_compare.specs.Table.{row_marks, row_texts, row_verdict}
 use Rattle.review_compare.specs.Table.{rows_depend, source_of, verdicts_text, witness_line}
 use Rattle.review_compare.specs.Body.Lines.{AreNames, head_of, lines_of, separated}
-
-pub differ : (a b : ℕ) → (a ≡ b → ⊥) → (a == b) ≡ false
-differ a b ne = go (a == b) refl
-  where
-    go : (c : Bool) → (a == b) ≡ c → c ≡ false
-    go true e = absurd (ne (eqb-true a b e))
-    go false e = refl
 
 flat-mapped : (names : List (List ℕ)) (numbers : List ℕ) →
     flat_map (λ i. separated (name_at names i)) numbers ≡ flat_map (λ text. 44 ∷ 32 ∷ text) (map (name_at names) numbers)
 flat-mapped names [] = refl
 flat-mapped names (i ∷ numbers) = ap (λ (xs : List ℕ). (44 ∷ 32 ∷ name_at names i) ++ xs) (flat-mapped names numbers)
 
-pub names-joined : (names : List (List ℕ)) (numbers : List ℕ) → (length numbers == length names) ≡ false →
+pub names-joined : (names : List (List ℕ)) (numbers : List ℕ) →
+    nat_lt (4 * length (missing (length names) numbers)) (length numbers) ≡ false →
     drop 2 (flat_map (λ i. separated (name_at names i)) numbers) ≡ names_text names numbers
 names-joined names numbers e =
     ap (drop 2) (flat-mapped names numbers)
-    ∙ sym (ap (λ b. cond b (codes "ALL") (joined (map (name_at names) numbers))) e)
+    ∙ sym (ap (λ b. cond b (all_but names (missing (length names) numbers)) (joined (map (name_at names) numbers))) e)
+
+-- one index more
+pub missing-more : (numbers : List ℕ) (n : ℕ) →
+    missing (n + 1) numbers ≡ missing n numbers ++ cond (not (is_among numbers n)) (n ∷ []) []
+missing-more numbers n =
+    ap (λ k. missing k numbers) (let e : n + 1 ≡ suc n = omega arith in e)
+    ∙ ap (filter is_missing) (range-more 0 n)
+    ∙ filter-append is_missing (range_with_len 0 n) ((0 + n) ∷ [])
+    ∙ ap (λ k. filter is_missing (range_with_len 0 n) ++ cond (is_missing k) (k ∷ []) []) (let e : 0 + n ≡ n = omega arith in e)
+  where
+    is_missing : ℕ → Bool
+    is_missing i = not (is_among numbers i)
 
 -- the head of a row by names
 head-same : (names : Names) (d : KnownRows) (groups : List Group) → AreNames d groups names → (row : Row) →

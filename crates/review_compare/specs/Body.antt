@@ -12,6 +12,7 @@ pub mod Classes
 pub mod ChangedRows
 pub mod Near
 pub mod AskClasses
+pub mod Brief
 pub mod SameRunas
 pub mod Whoever
 pub mod SharedAsks

@@ -1,6 +1,6 @@
 -- The cells of two policies, and the rows of the table of their differences.
-use Rattle.std.specs.Prelude.{◌≡◌, ◌⊎◌, ℕ, Bool, true, false, ◌&&◌, ◌==◌, List, [], ◌∷◌, flat_map, length, map, slice_get, bytes_eq, Option}
-use Rattle.std.specs.Prelude.{Some, None}
+use Rattle.std.specs.Prelude.{◌≡◌, ◌⊎◌, ℕ, Bool, true, false, not, ◌&&◌, ◌==◌, List, [], ◌∷◌, flat_map, length, map, slice_get}
+use Rattle.std.specs.Prelude.{bytes_eq, Option, Some, None}
 use Rattle.std.specs.List.{list_any, range_with_len, Contains}
 use Rattle.sudo_grammar.specs.declared.policy.Policy.{Policy}
 use Rattle.sudo_match.specs.declared.people.Group.{Group}
@@ -8,7 +8,10 @@ use Rattle.sudo_match.specs.declared.people.Machine.{Machine}
 use Rattle.sudo_match.specs.declared.people.Person.{Person}
 use Rattle.sudo_match.specs.KnownRows.{KnownRows}
 use Rattle.sudo_verdict.specs.Questions.{Question, question_as}
+use Rattle.sudo_verdict.specs.RunasForms.{has_group}
 use Rattle.review_compare.specs.declared.cell.Ask.{Ask}
+use Rattle.review_compare.specs.declared.cell.AskedGroups.{AskedGroups}
+use Rattle.review_compare.specs.declared.cell.AskedGroups.TheVariants as which
 use Rattle.review_compare.specs.declared.cell.Cell.{Cell}
 use Rattle.review_compare.specs.declared.compared.Compared.{Compared}
 use Rattle.review_compare.specs.declared.row.Row.{Row}
@@ -41,21 +44,42 @@ question_at d groups c = question_if d groups c.ask (slice_get d.people c.user) 
 
 -- ---- Rows
 
+-- whether the target has the group, if both are known
+abbrev pub has_if : Option Person → Option Group → Option Bool
+has_if (Some t) (Some g) = Some (has_group t g)
+has_if _ _ = None
+
+abbrev pub is_exactly : Bool → Option Bool → Bool
+is_exactly true (Some has) = has
+is_exactly false (Some has) = not has
+is_exactly _ None = false
+
 abbrev pub same_number : Option ℕ → Option ℕ → Bool
 same_number None None = true
 same_number (Some i) (Some j) = i == j
 same_number _ _ = false
 
--- the row has the cell: its user, its host, its target and its group are each in the row
-abbrev pub has_cell : Row → Cell → Bool
-has_cell r c =
+-- which groups a row asks for with a target: whether the group at an index is one of them, if there is any
+abbrev pub Asking : Type 0
+Asking = Option ℕ → Option ℕ → AskedGroups → Bool
+
+-- none or the one at an index; those that the target has; those that it has not (sudo_verdict, `has_group`: by their IDs)
+abbrev pub is_asked : KnownRows → List Group → Asking
+is_asked d groups target group (which.One index) = same_number group index
+is_asked d groups target group which.Own = is_exactly true (has_if (known_at d.people target) (known_at groups group))
+is_asked d groups target group which.Others = is_exactly false (has_if (known_at d.people target) (known_at groups group))
+
+-- the row has the cell: its user, its host and its target are each in the row, and its group is one that the row asks for with that
+-- target
+abbrev pub has_cell : Asking → Row → Cell → Bool
+has_cell asks r c =
     (list_any (λ u. u == c.user) r.users && list_any (λ m. m == c.host) r.hosts)
-    && (list_any (same_number c.ask.target) r.targets && list_any (same_number c.ask.group) r.groups)
+    && (list_any (same_number c.ask.target) r.targets && list_any (asks c.ask.target c.ask.group) r.groups)
 
 -- a row has the cell, with this finding
-abbrev pub Finds : List Row → Cell → Compared → Type 0
-Finds [] c f = ⊥
-Finds (r ∷ rs) c f = ((has_cell r c ≡ true) × (r.found ≡ f)) ⊎ Finds rs c f
+abbrev pub Finds : Asking → List Row → Cell → Compared → Type 0
+Finds asks [] c f = ⊥
+Finds asks (r ∷ rs) c f = ((has_cell asks r c ≡ true) × (r.found ≡ f)) ⊎ Finds asks rs c f
 
 abbrev pub FoundIf : Policy → Policy → Option Question → Compared → Type 0
 FoundIf old new None f = Unit {0}
@@ -71,7 +95,7 @@ SameIf old new (Some q) = SaySame old new q
 
 -- both policies say the same to every command of the cell, whichever noted conditions hold, or a row has it
 abbrev pub IsDone : Policy → Policy → KnownRows → List Group → List Row → Cell → Type 0
-IsDone old new d groups rows c = SameIf old new (question_at d groups c) ⊎ ((f : Compared) × Finds rows c f)
+IsDone old new d groups rows c = SameIf old new (question_at d groups c) ⊎ ((f : Compared) × Finds (is_asked d groups) rows c f)
 
 -- ---- The table
 
@@ -102,5 +126,5 @@ pub record IsAskedAbout (d : KnownRows) (groups : List Group) (user : Option Per
 -- noted conditions hold
 pub record AreDifferences (old new : Policy) (d : KnownRows) (groups : List Group) (user : Option Person) (host : Option Machine)
     (rows : List Row) : Type 0 where
-  pub right : (c : Cell) (f : Compared) → Finds rows c f → IsFound old new d groups c f
+  pub right : (c : Cell) (f : Compared) → Finds (is_asked d groups) rows c f → IsFound old new d groups c f
   pub complete : (c : Cell) → IsAskedAbout d groups user host c → IsDone old new d groups rows c

@@ -1,5 +1,7 @@
 -- The table of the differences of two policies, as CSV.
-use Rattle.std.specs.Prelude.{ℕ, ◌==◌, if◌then◌else◌, List, [], ◌∷◌, ◌++◌, codes, drop, filter, flat_map, length, map, slice_get}
+use Rattle.std.specs.Prelude.{ℕ, not, nat_lt, ◌==◌, ◌*◌, if◌then◌else◌, List, [], ◌∷◌, ◌++◌, codes, drop, filter, flat_map, length, map}
+use Rattle.std.specs.Prelude.{slice_get}
+use Rattle.std.specs.List.{list_any, range_with_len}
 use Rattle.std.specs.Prelude.{None, Option, Some}
 use Rattle.csv.specs.Writing.{default_writer, field_text, fields_text}
 use Rattle.audit_files.specs.Report.{verdict_place, verdict_tags, verdict_word}
@@ -15,6 +17,8 @@ use Rattle.review_grants.specs.Depends.{depends_text, has_mark, joined_marks, ma
 use Rattle.review_grants.specs.GrantRows.{joined}
 use Rattle.review_texts.specs.Masks.{as_written}
 use Rattle.review_texts.specs.Notes.{notes}
+use Rattle.review_compare.specs.declared.cell.AskedGroups.{AskedGroups}
+use Rattle.review_compare.specs.declared.cell.AskedGroups.TheVariants as which
 use Rattle.review_compare.specs.declared.compared.Compared.{Compared}
 use Rattle.review_compare.specs.declared.compared.Compared.TheVariants as compared
 use Rattle.review_compare.specs.declared.compared.Decider.{Decider}
@@ -41,9 +45,20 @@ name_if (Some name) = name
 abbrev pub name_at : List (List ℕ) → ℕ → List ℕ
 name_at names i = name_if (slice_get names i)
 
--- the names at these indices, with a comma and a space between them, or `ALL` where they are all
+-- the indices below a count that are not among these
+abbrev pub missing : ℕ → List ℕ → List ℕ
+missing count numbers = filter (λ i. not (list_any (λ n. n == i) numbers)) (range_with_len 0 count)
+
+-- all names but those at these indices, as a list of a policy says it
+abbrev pub all_but : List (List ℕ) → List ℕ → List ℕ
+all_but names indices = codes "ALL" ++ flat_map (λ i. codes ", !" ++ name_at names i) indices
+
+-- the names at these indices, with a comma and a space between them; `ALL` but those that are missing, where there are more than
+-- four times as many
 abbrev pub names_text : List (List ℕ) → List ℕ → List ℕ
-names_text names numbers = if length numbers == length names then codes "ALL" else joined (map (name_at names) numbers)
+names_text names numbers =
+    if nat_lt (4 * length (missing (length names) numbers)) (length numbers) then all_but names (missing (length names) numbers)
+    else joined (map (name_at names) numbers)
 
 abbrev pub numbers_of : List (Option ℕ) → List ℕ
 numbers_of [] = []
@@ -58,6 +73,27 @@ asked_if names (i ∷ numbers) = names_text names (i ∷ numbers)
 abbrev pub asked_text : List (List ℕ) → List (Option ℕ) → List ℕ
 asked_text names numbers = asked_if names (numbers_of numbers)
 
+-- those of the groups that are asked for one by one
+abbrev pub each_of : List AskedGroups → List (Option ℕ)
+each_of [] = []
+each_of (which.One index ∷ groups) = index ∷ each_of groups
+each_of (_ ∷ groups) = each_of groups
+
+-- those that depend on the target; a name of a group has no parenthesis without a backslash
+abbrev pub by_target : List AskedGroups → List (List ℕ)
+by_target [] = []
+by_target (which.Own ∷ groups) = codes "(own)" ∷ by_target groups
+by_target (which.Others ∷ groups) = codes "(others)" ∷ by_target groups
+by_target (_ ∷ groups) = by_target groups
+
+abbrev pub text_if : List ℕ → List (List ℕ)
+text_if [] = []
+text_if (byte ∷ bytes) = (byte ∷ bytes) ∷ []
+
+-- the names of the groups, and then those that depend on the target
+abbrev pub groups_text : List (List ℕ) → List AskedGroups → List ℕ
+groups_text names groups = joined (text_if (asked_text names (each_of groups)) ++ by_target groups)
+
 -- the first record: the names of the columns
 abbrev pub table_header : List ℕ
 table_header =
@@ -68,7 +104,7 @@ abbrev pub row_head : KnownRows → List Group → Row → List ℕ
 row_head d groups r =
     field_text default_writer (names_text (user_names d) r.users)
     ++ fields_text default_writer (names_text (host_names d) r.hosts
-    ∷ asked_text (user_names d) r.targets ∷ asked_text (group_names groups) r.groups ∷ [])
+    ∷ asked_text (user_names d) r.targets ∷ groups_text (group_names groups) r.groups ∷ [])
 
 -- a policy as the table shows it: the paths of its files, and which notes its lines have
 pub record Source : Type 0 where

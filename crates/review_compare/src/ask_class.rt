@@ -1,29 +1,30 @@
 //! Classes of asks: of the blocks near a change that list a user, the runas of the same ones allows each ask of a class. On a host
 //! the same comparison holds for all of them.
-ghost use Rattle.std.specs.Prelude.{◌≡◌, ◌<◌, ◌++◌, [], All, get_or, IfOk, IfSome, length, map, OnOk, true};
+ghost use Rattle.std.specs.Prelude.{◌≡◌, ◌<◌, ◌++◌, ◌∷◌, [], All, get_or, IfOk, IfSome, length, map, OnOk, true};
 ghost use Rattle.std.specs.List.{Contains};
 ghost use Rattle.review_compare.specs.declared.ask_class.AskClass.{AskClass as TheAskClass};
 ghost use Rattle.review_compare.specs.declared.ask_class.AskedWith.{AskedWith as TheAskedWith};
 ghost use Rattle.review_compare.specs.declared.cell.Ask.{Ask as TheAsk};
 ghost use Rattle.review_compare.specs.Body.AskClasses as body;
 ghost use Rattle.review_compare.specs.Body.Classes.{AreSameBlocks};
-ghost use Rattle.review_compare.specs.Body.Progress.{AreListedFor};
+ghost use Rattle.review_compare.specs.Body.Progress.{AreListedFor, asking};
 ghost use Rattle.review_compare.specs.Body.SharedAsks.{HaveShared, IsShared};
 
 use crate::asks::{group_at, person_at};
-use crate::cell::Ask;
+use crate::cell::{Ask, AskedGroups};
 use crate::host_class::are_same_blocks;
 use crate::pair::Pair;
+use crate::row::is_same_groups;
 use crate::shared::SharedAsks;
 use crate::spot::Listed;
 use std::alloc::{AllocError, Global};
 use sudo_match::{Machine, Person};
 use sudo_verdict::Asker;
 
-/// The targets of asks with one group, or without one: known users, or `None` alone.
+/// The targets of asks for the same groups: known users, or `None` alone.
 #[derive(Drop)]
 pub(crate) struct AskedWith {
-    pub(crate) group: Option<usize>,
+    pub(crate) groups: AskedGroups,
     pub(crate) targets: Vec<Option<usize>>,
 }
 
@@ -77,68 +78,75 @@ fn are_alike(target: Option<usize>, other: Option<usize>) -> bool {
     target.is_some() == other.is_some()
 }
 
-fn is_same_group(group: Option<usize>, other: Option<usize>) -> bool
-    ensures { result ≡ true → group ≡ other }
-{
-    group == other
-}
-
 impl AskedWith {
-    // Whether the ask has the same group, and a target exactly if these are users.
-    fn takes(&self, ask: Ask) -> bool
-        ensures { result ≡ true → self.now.group ≡ ask.group }
+    // Whether these groups are asked for, with users exactly if the target is one.
+    fn takes(&self, target: Option<usize>, groups: AskedGroups) -> bool
+        ensures { result ≡ true → self.now.groups ≡ groups }
     {
         match self.targets.first() {
             None => false,
-            Some(first) => are_alike(*first, ask.target) && is_same_group(self.group, ask.group),
+            Some(first) => are_alike(*first, target) && is_same_groups(self.groups, groups),
         }
     }
 }
 
-// Returns the index of the targets to which that of the ask belongs, if there are any.
-fn taking_index(asked: &[AskedWith], ask: Ask) -> Option<usize>
+// Returns the index of the targets with the same groups to which this one belongs, if there are any.
+fn taking_index(asked: &[AskedWith], target: Option<usize>, groups: AskedGroups) -> Option<usize>
     ensures { IfSome result (λ i. (i < length asked.now) × ((d : TheAskedWith)
-        → (get_or asked.now i d).group ≡ ask.group)) }
+        → (get_or asked.now i d).groups ≡ groups)) }
 {
     for index in 0..asked.len() {
-        if asked[index].takes(ask) {
+        if asked[index].takes(target, groups) {
             return Some(index);
         }
     }
     None
 }
 
-// Returns the target of the ask alone, with its group.
-fn asked_alone(alloc: Global, ask: Ask) -> Result<AskedWith, AllocError>
-    ensures only { IfOk result (λ w. (a : TheAsk) → body.IsAskedWith w a → ask ≡ a) }
-    ensures has { IfOk result (λ w. body.IsAskedWith w ask) }
+// Returns the target alone, with the groups.
+fn asked_alone(
+    alloc: Global,
+    target: Option<usize>,
+    groups: AskedGroups,
+) -> Result<AskedWith, AllocError>
+    ensures { IfOk result (λ w. (w.groups ≡ groups) × (w.targets.items ≡ target ∷ [])) }
 {
     let mut targets = Vec::new(alloc);
-    targets.push(ask.target)?;
-    Ok(AskedWith {
-        group: ask.group,
-        targets,
-    })
+    targets.push(target)?;
+    Ok(AskedWith { groups, targets })
 }
 
-/// Adds the ask to those of a class. Returns `AllocError` if allocation fails.
-pub(crate) fn push_asked(
+/// Adds the asks for a target with some groups. Returns `AllocError` if allocation fails.
+pub(crate) fn push_target(
     alloc: Global,
     asked: &mut Vec<AskedWith>,
-    ask: Ask,
+    target: Option<usize>,
+    groups: AskedGroups,
 ) -> Result<(), AllocError>
-    ensures { OnOk result (body.AddsAsked asked.old.items ask asked.new.items) }
+    ensures { OnOk result (body.AddsTarget asked.old.items target groups asked.new.items) }
 {
-    match taking_index(asked, ask) {
+    match taking_index(asked, target, groups) {
         Some(index) => {
-            asked[index].targets.push(ask.target)?;
+            asked[index].targets.push(target)?;
         }
         None => {
-            let alone = asked_alone(alloc, ask)?;
+            let alone = asked_alone(alloc, target, groups)?;
             asked.push(alone)?;
         }
     }
     Ok(())
+}
+
+/// Adds the ask. Returns `AllocError` if allocation fails.
+pub(crate) fn push_asked(
+    alloc: Global,
+    pair: &Pair<'_>,
+    asked: &mut Vec<AskedWith>,
+    ask: Ask,
+) -> Result<(), AllocError>
+    ensures { OnOk result (body.AddsAsked pair.now asked.old.items ask asked.new.items) }
+{
+    push_target(alloc, asked, ask.target, AskedGroups::One(ask.group))
 }
 
 // Returns the index of the class of these blocks, if there is one.
@@ -155,12 +163,17 @@ fn class_index(classes: &[AskClass], allowing: &Listed) -> Option<usize>
 }
 
 // Returns the class of the ask alone.
-fn class_alone(alloc: Global, allowing: Listed, ask: Ask) -> Result<AskClass, AllocError>
+fn class_alone(
+    alloc: Global,
+    pair: &Pair<'_>,
+    allowing: Listed,
+    ask: Ask,
+) -> Result<AskClass, AllocError>
     ensures { IfOk result (λ k. (k.allowing ≡ allowing)
-        × body.AddsAsked [] ask k.asked.items) }
+        × body.AddsAsked pair.now [] ask k.asked.items) }
 {
     let mut asked = Vec::new(alloc);
-    push_asked(alloc, &mut asked, ask)?;
+    push_asked(alloc, pair, &mut asked, ask)?;
     Ok(AskClass { allowing, asked })
 }
 
@@ -177,14 +190,14 @@ fn add_ask(
     requires are { All (body.IsAskClass pair.now person.now) classes.old.items }
     ensures are { OnOk result (All (body.IsAskClass pair.entry.now person.entry.now)
         classes.new.items) }
-    ensures has { OnOk result (body.HaveAsk classes.new.items ask) }
-    ensures kept { OnOk result ((a : TheAsk) → body.HaveAsk classes.old.items a
-        → body.HaveAsk classes.new.items a) }
+    ensures has { OnOk result (body.HaveAsk (asking pair.entry.now) classes.new.items ask) }
+    ensures kept { OnOk result ((a : TheAsk) → body.HaveAsk (asking pair.entry.now) classes.old.items a
+        → body.HaveAsk (asking pair.entry.now) classes.new.items a) }
 {
     match class_index(classes, &allowing) {
-        Some(index) => push_asked(alloc, &mut classes[index].asked, ask),
+        Some(index) => push_asked(alloc, pair, &mut classes[index].asked, ask),
         None => {
-            let class = class_alone(alloc, allowing, ask)?;
+            let class = class_alone(alloc, pair, allowing, ask)?;
             classes.push(class)?;
             Ok(())
         }
@@ -203,7 +216,7 @@ fn push_copies(
     for with in asked {
         let targets = Vec::from_slice(alloc, &with.targets)?;
         copies.push(AskedWith {
-            group: with.group,
+            groups: with.groups,
             targets,
         })?;
     }
@@ -241,10 +254,10 @@ fn add_shared(
     requires are { All (body.IsAskClass pair.now person.now) classes.old.items }
     ensures are { OnOk result (All (body.IsAskClass pair.entry.now person.entry.now)
         classes.new.items) }
-    ensures has { OnOk result ((a : TheAsk) → body.AreAsked shared.entry.now.asked.items a
-        → body.HaveAsk classes.new.items a) }
-    ensures kept { OnOk result ((a : TheAsk) → body.HaveAsk classes.old.items a
-        → body.HaveAsk classes.new.items a) }
+    ensures has { OnOk result ((a : TheAsk) → body.AreAsked (asking pair.entry.now) shared.entry.now.asked.items a
+        → body.HaveAsk (asking pair.entry.now) classes.new.items a) }
+    ensures kept { OnOk result ((a : TheAsk) → body.HaveAsk (asking pair.entry.now) classes.old.items a
+        → body.HaveAsk (asking pair.entry.now) classes.new.items a) }
 {
     match class_index(classes, &allowing) {
         Some(index) => push_copies(alloc, &shared.asked, &mut classes[index].asked),
@@ -271,7 +284,7 @@ fn own_classes(
     ensures are { IfOk result (λ classes. All (body.IsAskClass pair.entry.now person.entry.now)
         classes.items) }
     ensures all { IfOk result (λ classes. (a : TheAsk) → Contains asks.entry.now a
-        → body.HaveAsk classes.items a) }
+        → body.HaveAsk (asking pair.entry.now) classes.items a) }
 {
     let mut classes = Vec::new(alloc);
     for ask in asks {
@@ -297,9 +310,9 @@ pub(crate) fn ask_classes(
     ensures are { IfOk result (λ classes. All (body.IsAskClass pair.entry.now person.entry.now)
         classes.items) }
     ensures own { IfOk result (λ classes. (a : TheAsk) → Contains asks.entry.now a
-        → body.HaveAsk classes.items a) }
-    ensures shared { IfOk result (λ classes. (a : TheAsk) → HaveShared shared.entry.now a
-        → body.HaveAsk classes.items a) }
+        → body.HaveAsk (asking pair.entry.now) classes.items a) }
+    ensures shared { IfOk result (λ classes. (a : TheAsk) → HaveShared (asking pair.entry.now) shared.entry.now a
+        → body.HaveAsk (asking pair.entry.now) classes.items a) }
 {
     let firsts = firsts_of(alloc, pair, listed)?;
     let mut classes = own_classes(alloc, pair, person, machine, listed, &firsts, asks)?;

@@ -9,6 +9,17 @@ pub struct Ask {
     pub group: Option<usize>,
 }
 
+/// Which groups are asked for with a target.
+#[derive(Clone, Copy, Debug, PartialEq, Eq)]
+pub enum AskedGroups {
+    /// No group, or the one at an index.
+    One(Option<usize>),
+    /// Each group that the target has.
+    Own,
+    /// Each group that the target has not.
+    Others,
+}
+
 /// A user on a host who asks.
 #[derive(Clone, Copy, Debug, PartialEq, Eq)]
 pub struct Cell {

@@ -100,7 +100,7 @@ fn add_host<'a>(
     requires right { All (IsRight pair.now) comparisons.old.items }
     ensures added { OnOk result (AddsCells pair.entry.now classes.old.items
         (body.IsOnAsked pair.entry.now (option_copied scope.entry) spot.entry.user
-        spot.entry.host (HaveAsk asked.entry.now)) classes.new.items) }
+        spot.entry.host (HaveAsk (body.asking pair.entry.now) asked.entry.now)) classes.new.items) }
     ensures classes { OnOk result (All (IsClass pair.entry.now spot.entry.user
         spot.entry.person.now asked.entry.now) classes.new.items) }
     ensures right { OnOk result (All (IsRight pair.entry.now) comparisons.new.items) }
@@ -115,8 +115,8 @@ fn add_host<'a>(
     add_spot(alloc, pair, spot, on, asked, classes, comparisons)
 }
 
-// Appends an ask, if it is kept.
-fn push_if(asks: &mut Vec<Ask>, ask: Ask, keep: bool) -> Result<(), AllocError>
+/// Appends an ask, if it is kept. Returns `AllocError` if allocation fails.
+pub(crate) fn push_if(asks: &mut Vec<Ask>, ask: Ask, keep: bool) -> Result<(), AllocError>
     ensures { OnOk result (asks.new.items
         ≡ asks.old.items ++ (if keep then ask ∷ [] else [])) }
 {
@@ -159,7 +159,7 @@ fn classes_for<'a>(
     requires asked { All (IsAskClass pair.now person.now) asked.now }
     requires right { All (IsRight pair.now) comparisons.old.items }
     ensures all { IfOk result (λ classes. (c : Cell) → body.IsOnEach pair.entry.now
-        (option_copied scope.entry) user (HaveAsk asked.entry.now) c
+        (option_copied scope.entry) user (HaveAsk (body.asking pair.entry.now) asked.entry.now) c
         → IsClassed pair.entry.now classes.items c) }
     ensures classes { IfOk result (λ classes. All (IsClass pair.entry.now user person.entry.now
         asked.entry.now) classes.items) }
@@ -205,7 +205,7 @@ fn rows_for_asked(
     requires right { All (IsRight pair.now) comparisons.old.items }
     ensures all { IfOk result (λ rows. body.Progress pair.entry.now [] rows.items
         (body.IsOnEach pair.entry.now (option_copied scope.entry) user
-        (HaveAsk asked.entry.now))) }
+        (HaveAsk (body.asking pair.entry.now) asked.entry.now))) }
     ensures right { OnOk result (All (IsRight pair.entry.now) comparisons.new.items) }
 {
     let classes = classes_for(alloc, pair, user, person, scope, listed, asked, comparisons)?;

@@ -1,4 +1,5 @@
 //! Where rows stand that another may be merged with: hints, each of which is checked before it is used.
+use crate::cell::AskedGroups;
 use crate::compared::{Compared, Decider};
 use crate::row::{Dimension, Row};
 use crate::witness::Witness;
@@ -67,6 +68,18 @@ fn with_asked(digest: usize, numbers: &[Option<usize>]) -> usize {
     digest
 }
 
+fn with_groups(digest: usize, groups: &[AskedGroups]) -> usize {
+    let mut digest = with_number(digest, groups.len());
+    for each in groups {
+        digest = match each {
+            AskedGroups::One(number) => with_number(digest, number.unwrap_or(usize::MAX)),
+            AskedGroups::Own => with_number(digest, usize::MAX - 1),
+            AskedGroups::Others => with_number(digest, usize::MAX - 2),
+        };
+    }
+    digest
+}
+
 fn with_bytes(digest: usize, bytes: &[u8]) -> usize {
     let mut digest = with_number(digest, bytes.len());
     for byte in bytes {
@@ -109,9 +122,9 @@ pub(crate) fn digest_of(row: &Row, dimension: Dimension) -> usize {
     let (users, hosts) = (row.users.as_slice(), row.hosts.as_slice());
     let (targets, groups) = (row.targets.as_slice(), row.groups.as_slice());
     match dimension {
-        Dimension::Users => with_asked(with_asked(with_numbers(digest, hosts), targets), groups),
-        Dimension::Hosts => with_asked(with_asked(with_numbers(digest, users), targets), groups),
-        Dimension::Targets => with_asked(with_numbers(with_numbers(digest, users), hosts), groups),
+        Dimension::Users => with_groups(with_asked(with_numbers(digest, hosts), targets), groups),
+        Dimension::Hosts => with_groups(with_asked(with_numbers(digest, users), targets), groups),
+        Dimension::Targets => with_groups(with_numbers(with_numbers(digest, users), hosts), groups),
         Dimension::Groups => with_asked(with_numbers(with_numbers(digest, users), hosts), targets),
     }
 }

@@ -235,7 +235,7 @@ fn rows_of_each(
 ) -> Result<Vec<Row>, AllocError>
     requires { All (of_hosts.IsClass pair.now user person.now asked.now) classes.now }
     ensures { IfOk result (λ rows. body.Progress pair.entry.now [] rows.items
-        (of_hosts.IsOnClasses user classes.entry.now (HaveAsk asked.entry.now))) }
+        (of_hosts.IsOnClasses user classes.entry.now (HaveAsk (body.asking pair.entry.now) asked.entry.now))) }
 {
     let mut finder = Finder::new(alloc, BUCKETS)?;
     let mut rows = Vec::new(alloc);
@@ -258,7 +258,7 @@ pub(crate) fn rows_of(
 ) -> Result<Vec<Row>, AllocError>
     requires { All (of_hosts.IsClass pair.now user person.now asked.now) classes.items }
     ensures { IfOk result (λ rows. body.Progress pair.entry.now [] rows.items
-        (of_hosts.IsOnClasses user classes.entry.items (HaveAsk asked.entry.now))) }
+        (of_hosts.IsOnClasses user classes.entry.items (HaveAsk (body.asking pair.entry.now) asked.entry.now))) }
 {
     let joined = joined(alloc, pair, user, person, asked, classes)?;
     let rows = rows_of_each(alloc, pair, user, person, asked, &joined)?;

@@ -8,6 +8,7 @@ mod answer;
 mod ask_class;
 mod asks;
 mod block;
+mod brief;
 mod candidates;
 mod cell;
 mod changed;
@@ -41,7 +42,7 @@ mod whoever;
 mod witness;
 
 pub use answer::{Answer, answer_between};
-pub use cell::{Ask, Cell};
+pub use cell::{Ask, AskedGroups, Cell};
 pub use compared::{Compared, Decider};
 pub use differences::compared_policies;
 pub use laws::{

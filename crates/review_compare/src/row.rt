@@ -1,11 +1,12 @@
 //! Rows of the table: cells of which one thing is found.
-ghost use Rattle.std.specs.Prelude.{◌≡◌, ◌<◌, [], IfOk, IfSome, OnOk, get_or, length, true};
+ghost use Rattle.std.specs.Prelude.{◌≡◌, ◌<◌, [], IsPermutation, IfOk, IfSome, OnOk, get_or, length, true};
 ghost use Rattle.review_compare.specs.declared.row.Row.{Row as TheRow};
 ghost use Rattle.review_compare.specs.Differences as differences;
 ghost use Rattle.review_compare.specs.Body.Merged as body;
 
 use crate::alike::is_same_found;
 use crate::ask_class::AskedWith;
+use crate::cell::AskedGroups;
 use crate::compared::Compared;
 use crate::finder::{Finder, digest_of};
 use std::alloc::{AllocError, Global};
@@ -20,8 +21,8 @@ pub struct Row {
     pub hosts: Seq<usize>,
     /// The indices of the users that are asked for; `None` if no one is.
     pub targets: Seq<Option<usize>>,
-    /// The indices of the groups that are asked for; `None` if none is.
-    pub groups: Seq<Option<usize>>,
+    /// Which groups are asked for.
+    pub groups: Seq<AskedGroups>,
     /// What is found.
     pub found: Compared,
 }
@@ -44,7 +45,8 @@ fn are_same(numbers: &Seq<usize>, others: &Seq<usize>) -> bool
     numbers == others
 }
 
-fn is_same_number(number: Option<usize>, other: Option<usize>) -> bool
+/// Whether both are the same number, or neither is one.
+pub(crate) fn is_same_number(number: Option<usize>, other: Option<usize>) -> bool
     ensures { result ≡ differences.same_number number other }
 {
     match (number, other) {
@@ -79,8 +81,44 @@ fn are_same_asked(numbers: &Seq<Option<usize>>, others: &Seq<Option<usize>>) -> 
     numbers.len() == others.len() && have_same_numbers(numbers.as_slice(), others.as_slice())
 }
 
+/// Whether the same groups are asked for.
+pub(crate) fn is_same_groups(groups: AskedGroups, others: AskedGroups) -> bool
+    ensures { result ≡ true → groups ≡ others }
+{
+    match (groups, others) {
+        (AskedGroups::One(own), AskedGroups::One(its)) => own == its,
+        (AskedGroups::Own, AskedGroups::Own) => true,
+        (AskedGroups::Others, AskedGroups::Others) => true,
+        _ => false,
+    }
+}
+
+fn have_same_groups(groups: &[AskedGroups], others: &[AskedGroups]) -> bool
+    ensures { result ≡ true → groups.now ≡ others.now }
+{
+    let mut own = groups;
+    let mut left = others;
+    while let [each, rest @ ..] = own {
+        let [other, more @ ..] = left else {
+            return false;
+        };
+        if !is_same_groups(*each, *other) {
+            return false;
+        }
+        own = rest;
+        left = more;
+    }
+    left.is_empty()
+}
+
+fn are_same_groups(groups: &Seq<AskedGroups>, others: &Seq<AskedGroups>) -> bool
+    ensures { result ≡ true → groups.now ≡ others.now }
+{
+    have_same_groups(groups.as_slice(), others.as_slice())
+}
+
 impl Row {
-    /// Returns the row of the targets with a group, for a user on hosts. Returns `AllocError` if allocation fails.
+    /// Returns the row of the targets with their groups, for a user on hosts. Returns `AllocError` if allocation fails.
     pub(crate) fn of(
         alloc: Global,
         user: usize,
@@ -93,7 +131,7 @@ impl Row {
         let users = Seq::from_slice(alloc, &[user])?;
         let hosts = Seq::from_slice(alloc, hosts)?;
         let targets = Seq::from_slice(alloc, &asked.targets)?;
-        let groups = Seq::from_slice(alloc, &[asked.group])?;
+        let groups = Seq::from_slice(alloc, &[asked.groups])?;
         Ok(Row {
             users,
             hosts,
@@ -118,7 +156,7 @@ impl Row {
     fn is_like_but_users(&self, other: &Row) -> bool
         ensures { result ≡ true → body.AreLike Dimension.Users self.now other.now }
     {
-        if !are_same_asked(&self.groups, &other.groups) {
+        if !are_same_groups(&self.groups, &other.groups) {
             return false;
         }
         if !are_same(&self.hosts, &other.hosts) {
@@ -133,7 +171,7 @@ impl Row {
     fn is_like_but_hosts(&self, other: &Row) -> bool
         ensures { result ≡ true → body.AreLike Dimension.Hosts self.now other.now }
     {
-        if !are_same_asked(&self.groups, &other.groups) {
+        if !are_same_groups(&self.groups, &other.groups) {
             return false;
         }
         if !are_same(&self.users, &other.users) {
@@ -151,7 +189,7 @@ impl Row {
         if is_asked(&self.targets) != is_asked(&other.targets) {
             return false;
         }
-        if !are_same_asked(&self.groups, &other.groups) {
+        if !are_same_groups(&self.groups, &other.groups) {
             return false;
         }
         if !are_same(&self.users, &other.users) {
@@ -166,7 +204,7 @@ impl Row {
     fn is_like_but_groups(&self, other: &Row) -> bool
         ensures { result ≡ true → body.AreLike Dimension.Groups self.now other.now }
     {
-        if is_asked(&self.groups) != is_asked(&other.groups) {
+        if names_group(&self.groups) != names_group(&other.groups) {
             return false;
         }
         if !are_same(&self.users, &other.users) {
@@ -255,6 +293,58 @@ pub(crate) fn absorb_all(
     Ok(())
 }
 
+// Whether each number is below the next one.
+fn ascend(numbers: &[usize]) -> bool {
+    let mut left = numbers;
+    while let [first, rest @ ..] = left {
+        if let [second, ..] = rest {
+            if *first >= *second {
+                return false;
+            }
+        }
+        left = rest;
+    }
+    true
+}
+
+// Returns the numbers in order. Mostly they are.
+fn in_order(numbers: Seq<usize>) -> Seq<usize>
+    ensures { IsPermutation numbers result }
+{
+    if ascend(numbers.as_slice()) {
+        return numbers;
+    }
+    let mut numbers = numbers.into_vec();
+    numbers.sort_unstable();
+    Seq::from_vec(numbers)
+}
+
+// Whether each target is before the next one.
+fn targets_ascend(targets: &[Option<usize>]) -> bool {
+    let mut left = targets;
+    while let [first, rest @ ..] = left {
+        if let [second, ..] = rest {
+            if *first >= *second {
+                return false;
+            }
+        }
+        left = rest;
+    }
+    true
+}
+
+// Returns the targets in order. Mostly they are.
+fn targets_in_order(targets: Seq<Option<usize>>) -> Seq<Option<usize>>
+    ensures { IsPermutation targets result }
+{
+    if targets_ascend(targets.as_slice()) {
+        return targets;
+    }
+    let mut targets = targets.into_vec();
+    targets.sort_unstable();
+    Seq::from_vec(targets)
+}
+
 // Returns the row with its hosts and its targets in order.
 fn ordered_row(row: Row) -> Row
     ensures { body.IsOrdered row result }
@@ -266,14 +356,10 @@ fn ordered_row(row: Row) -> Row
         groups,
         found,
     } = row;
-    let mut hosts = hosts.into_vec();
-    hosts.sort_unstable();
-    let mut targets = targets.into_vec();
-    targets.sort_unstable();
     Row {
         users,
-        hosts: Seq::from_vec(hosts),
-        targets: Seq::from_vec(targets),
+        hosts: in_order(hosts),
+        targets: targets_in_order(targets),
         groups,
         found,
     }
@@ -309,6 +395,15 @@ pub(crate) fn merged(alloc: Global, rows: Vec<Row>) -> Result<Vec<Row>, AllocErr
 {
     let ordered = ordered(alloc, rows)?;
     grouped(alloc, ordered)
+}
+
+// Whether the first of them are groups.
+fn names_group(groups: &Seq<AskedGroups>) -> bool {
+    match groups.as_slice() {
+        [] => false,
+        [AskedGroups::One(first), ..] => first.is_some(),
+        _ => true,
+    }
 }
 
 // Whether the first of them is asked for.

@@ -1,14 +1,14 @@
 //! Asks that the same near rows decide, whoever asks: which blocks these are is found once for all of them.
-ghost use Rattle.std.specs.Prelude.{◌≡◌, ◌<◌, ◌⊎◌, [], All, get_or, IfOk, IfSome, length, OnOk, true};
+ghost use Rattle.std.specs.Prelude.{◌≡◌, ◌<◌, ◌⊎◌, ◌∷◌, [], All, get_or, IfOk, IfSome, length, OnOk, true};
 ghost use Rattle.std.specs.List.{Contains};
 ghost use Rattle.review_compare.specs.declared.cell.Ask.{Ask as TheAsk};
-ghost use Rattle.review_compare.specs.declared.shared.SharedAsks.{SharedAsks as TheSharedAsks};
-ghost use Rattle.review_compare.specs.Body.AskClasses.{AddsAsked};
+ghost use Rattle.review_compare.specs.declared.shared.AnsweredAsks.{AnsweredAsks as TheAnsweredAsks};
 ghost use Rattle.review_compare.specs.Body.SharedAsks as body;
 ghost use Rattle.review_compare.specs.Body.Whoever.{AreAnswered, AreFormsIn};
 
-use crate::ask_class::{AskedWith, push_asked};
+use crate::ask_class::AskedWith;
 use crate::asks::{group_at, person_at};
+use crate::brief::brief_asks;
 use crate::cell::Ask;
 use crate::pair::Pair;
 use crate::spot::Listed;
@@ -17,13 +17,10 @@ use std::alloc::{AllocError, Global};
 use sudo_match::{Machine, Person};
 use sudo_verdict::Asker;
 
-/// Asks to which the blocks near a change answer the same, whoever asks: the first, what blocks with each runas answer, and all of
-/// them.
+/// Asks to which the blocks near a change answer the same, whoever asks: the first, and all of them.
 #[derive(Drop)]
 pub(crate) struct SharedAsks {
     pub(crate) first: Ask,
-    pub(crate) old: Vec<bool>,
-    pub(crate) new: Vec<bool>,
     pub(crate) asked: Vec<AskedWith>,
 }
 
@@ -40,6 +37,14 @@ pub(crate) struct SplitAsks {
 struct Answers {
     old: Vec<bool>,
     new: Vec<bool>,
+}
+
+// Asks to which blocks answer the same, whoever asks: the first, what they answer, and all asks.
+#[derive(Drop)]
+struct AnsweredAsks {
+    first: Ask,
+    answers: Answers,
+    asks: Vec<Ask>,
 }
 
 // Returns of the blocks near the change one for each runas.
@@ -104,24 +109,25 @@ fn are_same_answers(answers: &[bool], others: &[bool]) -> bool
 }
 
 // Whether the blocks of both policies answer so to the asks.
-fn are_answered(shared: &SharedAsks, answers: &Answers) -> bool
-    ensures { result ≡ true → (shared.now.old.items ≡ answers.now.old.items)
-        × (shared.now.new.items ≡ answers.now.new.items) }
+fn are_answered(answered: &AnsweredAsks, answers: &Answers) -> bool
+    ensures { result ≡ true
+        → (answered.now.answers.old.items ≡ answers.now.old.items)
+        × (answered.now.answers.new.items ≡ answers.now.new.items) }
 {
-    if !are_same_answers(&shared.old, &answers.old) {
+    if !are_same_answers(&answered.answers.old, &answers.old) {
         return false;
     }
-    are_same_answers(&shared.new, &answers.new)
+    are_same_answers(&answered.answers.new, &answers.new)
 }
 
 // Returns the index of the asks to which the blocks answer so, if there are any.
-fn index_of(shared: &[SharedAsks], answers: &Answers) -> Option<usize>
-    ensures { IfSome result (λ i. (i < length shared.now) × ((d : TheSharedAsks)
-        → ((get_or shared.now i d).old.items ≡ answers.now.old.items)
-        × ((get_or shared.now i d).new.items ≡ answers.now.new.items))) }
+fn index_of(answered: &[AnsweredAsks], answers: &Answers) -> Option<usize>
+    ensures { IfSome result (λ i. (i < length answered.now) × ((d : TheAnsweredAsks)
+        → ((get_or answered.now i d).answers.old.items ≡ answers.now.old.items)
+        × ((get_or answered.now i d).answers.new.items ≡ answers.now.new.items))) }
 {
-    for index in 0..shared.len() {
-        if are_answered(&shared[index], answers) {
+    for index in 0..answered.len() {
+        if are_answered(&answered[index], answers) {
             return Some(index);
         }
     }
@@ -129,45 +135,46 @@ fn index_of(shared: &[SharedAsks], answers: &Answers) -> Option<usize>
 }
 
 // Returns the ask alone, with what the blocks answer to it.
-fn shared_alone(alloc: Global, answers: Answers, ask: Ask) -> Result<SharedAsks, AllocError>
-    ensures { IfOk result (λ s. (s.first ≡ ask) × (s.old.items ≡ answers.old.items)
-        × (s.new.items ≡ answers.new.items) × AddsAsked [] ask s.asked.items) }
+fn answered_alone(alloc: Global, answers: Answers, ask: Ask) -> Result<AnsweredAsks, AllocError>
+    ensures { IfOk result (λ s. (s.first ≡ ask) × (s.answers ≡ answers)
+        × (s.asks.items ≡ ask ∷ [])) }
 {
-    let mut asked = Vec::new(alloc);
-    push_asked(alloc, &mut asked, ask)?;
-    Ok(SharedAsks {
+    let mut asks = Vec::new(alloc);
+    asks.push(ask)?;
+    Ok(AnsweredAsks {
         first: ask,
-        old: answers.old,
-        new: answers.new,
-        asked,
+        answers,
+        asks,
     })
 }
 
 // Adds the ask to those to which the blocks answer so.
-fn add_shared(
+fn add_answered(
     alloc: Global,
     pair: &Pair<'_>,
     forms: &Listed,
     answers: Answers,
     ask: Ask,
-    shared: &mut Vec<SharedAsks>,
+    answered: &mut Vec<AnsweredAsks>,
 ) -> Result<(), AllocError>
-    requires answered { AreAnswered pair.now forms.now ask answers.old.items answers.new.items }
-    requires are { All (body.IsAnsweredAlike pair.now forms.now) shared.old.items }
+    requires answers { AreAnswered pair.now forms.now ask answers.old.items answers.new.items }
+    requires are { All (body.IsAnsweredAlike pair.now forms.now) answered.old.items }
     ensures are { OnOk result (All (body.IsAnsweredAlike pair.entry.now forms.entry.now)
-        shared.new.items) }
-    ensures has { OnOk result (body.HaveShared shared.new.items ask) }
-    ensures kept { OnOk result ((a : TheAsk) → body.HaveShared shared.old.items a
-        → body.HaveShared shared.new.items a) }
+        answered.new.items) }
+    ensures has { OnOk result (body.HaveAnswered answered.new.items ask) }
+    ensures kept { OnOk result ((a : TheAsk) → body.HaveAnswered answered.old.items a
+        → body.HaveAnswered answered.new.items a) }
 {
-    match index_of(shared, &answers) {
-        Some(index) => push_asked(alloc, &mut shared[index].asked, ask),
+    match index_of(answered, &answers) {
+        Some(index) => {
+            answered[index].asks.push(ask)?;
+        }
         None => {
-            let alone = shared_alone(alloc, answers, ask)?;
-            shared.push(alone)?;
-            Ok(())
+            let alone = answered_alone(alloc, answers, ask)?;
+            answered.push(alone)?;
         }
     }
+    Ok(())
 }
 
 // Adds the ask to those to which the blocks answer the same, whoever asks, if they do, and otherwise to the others.
@@ -178,23 +185,42 @@ fn split_ask(
     machine: &Machine,
     forms: &Listed,
     ask: Ask,
-    shared: &mut Vec<SharedAsks>,
+    answered: &mut Vec<AnsweredAsks>,
     own: &mut Vec<Ask>,
 ) -> Result<(), AllocError>
-    requires { All (body.IsAnsweredAlike pair.now forms.now) shared.old.items }
+    requires { All (body.IsAnsweredAlike pair.now forms.now) answered.old.items }
     ensures are { OnOk result (All (body.IsAnsweredAlike pair.entry.now forms.entry.now)
-        shared.new.items) }
-    ensures has { OnOk result (Contains own.new.items ask ⊎ body.HaveShared shared.new.items ask) }
+        answered.new.items) }
+    ensures has { OnOk result (Contains own.new.items ask
+        ⊎ body.HaveAnswered answered.new.items ask) }
     ensures kept { OnOk result ((a : TheAsk) → (Contains own.old.items a → Contains own.new.items a)
-        × (body.HaveShared shared.old.items a → body.HaveShared shared.new.items a)) }
+        × (body.HaveAnswered answered.old.items a → body.HaveAnswered answered.new.items a)) }
 {
     match answers_to(alloc, pair, person, machine, forms, ask)? {
-        Some(answers) => add_shared(alloc, pair, forms, answers, ask, shared),
+        Some(answers) => add_answered(alloc, pair, forms, answers, ask, answered),
         None => {
             own.push(ask)?;
             Ok(())
         }
     }
+}
+
+// Returns the asks of each class in brief.
+fn shared_asks(
+    alloc: Global,
+    pair: &Pair<'_>,
+    answered: &[AnsweredAsks],
+) -> Result<Vec<SharedAsks>, AllocError>
+    ensures { IfOk result (λ shared. body.AreBriefly pair.now answered.now shared.items) }
+{
+    let mut shared = Vec::new(alloc);
+    for each in answered {
+        shared.push(SharedAsks {
+            first: each.first,
+            asked: brief_asks(alloc, pair, &each.asks)?,
+        })?;
+    }
+    Ok(shared)
 }
 
 /// Splits asks into those that the same near rows decide, whoever asks, in classes, and the others. The user and the host are any
@@ -210,7 +236,7 @@ pub(crate) fn split_asks(
     ensures all { IfOk result (λ split. split.all.items ≡ asks.now) }
 {
     let forms = forms_near(alloc, pair)?;
-    let mut shared = Vec::new(alloc);
+    let mut answered = Vec::new(alloc);
     let mut own = Vec::new(alloc);
     for ask in asks {
         split_ask(
@@ -220,10 +246,11 @@ pub(crate) fn split_asks(
             machine,
             &forms,
             *ask,
-            &mut shared,
+            &mut answered,
             &mut own,
         )?;
     }
+    let shared = shared_asks(alloc, pair, &answered)?;
     let all = Vec::from_slice(alloc, asks)?;
     Ok(SplitAsks { all, shared, own })
 }

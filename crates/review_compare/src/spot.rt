@@ -1,6 +1,7 @@
 //! The comparison for a known user on a known host.
 ghost use Rattle.std.specs.Prelude.{◌≡◌, ◌∷◌, [], All, IfOk, OnOk};
 ghost use Rattle.review_compare.specs.Body.AskClasses.{AreAsked, HaveAsk, IsAskClass, IsAskedWith, on_new, on_old};
+ghost use Rattle.review_compare.specs.Differences.{Asking};
 ghost use Rattle.review_compare.specs.Witnesses.{IsCompared};
 ghost use Rattle.review_compare.specs.Body.Comparisons.{IsRight};
 ghost use Rattle.review_compare.specs.Body.Classes.{AreRightIn, IsRightIn};
@@ -63,7 +64,7 @@ fn found_at(
     requires class { IsAskClass pair.now spot.person.now class.now }
     requires right { All (IsRight pair.now) comparisons.old.items }
     ensures found { IfOk result (IsRightIn pair.entry.now spot.entry.user (spot.entry.host ∷ [])
-        (AreAsked class.entry.now.asked.items)) }
+        (AreAsked (body.asking pair.entry.now) class.entry.now.asked.items)) }
     ensures right { OnOk result (All (IsRight pair.entry.now) comparisons.new.items) }
 {
     found_on(alloc, pair, spot.machine, class, comparisons)
@@ -92,7 +93,7 @@ pub(crate) fn founds_at(
     Ok(founds)
 }
 
-// Adds the outcome for the targets with one group.
+// Adds the outcome for the targets with their groups.
 fn add_found(
     alloc: Global,
     user: usize,
@@ -102,8 +103,8 @@ fn add_found(
     rows: &mut Vec<Row>,
     finder: &mut Finder,
 ) -> Result<(), AllocError>
-    ensures { OnOk result (AddsFound rows.old.items user hosts.entry.now
-        (IsAskedWith asked.entry.now) found.entry.now rows.new.items) }
+    ensures { OnOk result ((asks : Asking) → AddsFound asks rows.old.items user hosts.entry.now
+        (IsAskedWith asks asked.entry.now) found.entry.now rows.new.items) }
 {
     let copy = copied(alloc, found)?;
     let row = Row::of(alloc, user, hosts, asked, copy)?;
@@ -120,8 +121,8 @@ fn add_each(
     rows: &mut Vec<Row>,
     finder: &mut Finder,
 ) -> Result<(), AllocError>
-    ensures { OnOk result (AddsFound rows.old.items user hosts.entry.now
-        (AreAsked asked.entry.now) found.entry.now rows.new.items) }
+    ensures { OnOk result ((asks : Asking) → AddsFound asks rows.old.items user hosts.entry.now
+        (AreAsked asks asked.entry.now) found.entry.now rows.new.items) }
 {
     for targets in asked {
         add_found(alloc, user, hosts, targets, found, rows, finder)?;
@@ -140,9 +141,11 @@ fn add_class(
     rows: &mut Vec<Row>,
     finder: &mut Finder,
 ) -> Result<(), AllocError>
-    requires { IsRightIn pair.now user hosts.now (AreAsked class.now.asked.items) found.now }
+    requires { IsRightIn pair.now user hosts.now
+        (AreAsked (body.asking pair.now) class.now.asked.items) found.now }
     ensures { OnOk result (body.Progress pair.entry.now rows.old.items rows.new.items
-        (IsOnAmong user hosts.entry.now (AreAsked class.entry.now.asked.items))) }
+        (IsOnAmong user hosts.entry.now
+        (AreAsked (body.asking pair.entry.now) class.entry.now.asked.items))) }
 {
     match found {
         Compared::Same => Ok(()),
@@ -162,7 +165,8 @@ pub(crate) fn rows_on(
 ) -> Result<Vec<Row>, AllocError>
     requires { AreRightIn pair.now user hosts.now classes.now founds.now }
     ensures { IfOk result (λ rows. body.Progress pair.entry.now [] rows.items
-        (IsOnAmong user hosts.entry.now (HaveAsk classes.entry.now))) }
+        (IsOnAmong user hosts.entry.now
+        (HaveAsk (body.asking pair.entry.now) classes.entry.now))) }
 {
     let mut finder = Finder::new(alloc, BUCKETS)?;
     let mut rows = Vec::new(alloc);

@@ -1,10 +1,12 @@
 //! The text of the table of differences.
-ghost use Rattle.std.specs.Prelude.{◌≡◌, ◌++◌, ◌∷◌, [], codes, drop, flat_map, IfOk, map, OnOk};
+ghost use Rattle.std.specs.Prelude.{◌≡◌, ◌++◌, ◌∷◌, ◌*◌, [], codes, drop, flat_map, if◌then◌else◌};
+ghost use Rattle.std.specs.Prelude.{IfOk, length, map, nat_lt, not, OnOk};
 ghost use Rattle.csv.specs.Writing.{default_writer, field_text, fields_text};
 ghost use Rattle.sudo_parser.specs.Texts.{atom_text, user_text};
 ghost use Rattle.review_compare.specs.Table as table;
 ghost use Rattle.review_compare.specs.Body.Lines as body;
 
+use crate::cell::AskedGroups;
 use crate::compared::{Compared, Decider};
 use crate::row::Row;
 use crate::witness::Witness;
@@ -119,13 +121,92 @@ fn joined(alloc: Global, separated: &[u8]) -> Result<Vec<u8>, AllocError>
     }
 }
 
-// Returns the names at these indices with a comma and a space between them, or `ALL` where they are all.
+// Marks the number, if it is below the count of marks.
+fn mark(marks: &mut Vec<bool>, number: usize)
+    ensures { body.IsMarked marks.old.items number marks.new.items }
+{
+    if number < marks.len() {
+        marks[number] = true;
+    }
+}
+
+// Returns which of the indices below a count are among these.
+fn marks_of(alloc: Global, count: usize, numbers: &[usize]) -> Result<Vec<bool>, AllocError>
+    ensures { IfOk result (λ marks. body.AreMarked count numbers.now marks.items) }
+{
+    let mut marks = Vec::new(alloc);
+    marks.resize(count, false)?;
+    for number in numbers {
+        mark(&mut marks, *number);
+    }
+    Ok(marks)
+}
+
+// Appends the index, unless it is marked.
+fn push_unmarked(missing: &mut Vec<usize>, index: usize, marked: bool) -> Result<(), AllocError>
+    ensures { OnOk result (missing.new.items
+        ≡ missing.old.items ++ (if not marked then index ∷ [] else [])) }
+{
+    if !marked {
+        missing.push(index)?;
+    }
+    Ok(())
+}
+
+// Returns the indices below a count that are not among these.
+fn missing(alloc: Global, count: usize, numbers: &[usize]) -> Result<Vec<usize>, AllocError>
+    ensures { IfOk result (λ missing. missing.items ≡ table.missing count numbers.now) }
+{
+    let marks = marks_of(alloc, count, numbers)?;
+    let mut missing = Vec::new(alloc);
+    for index in 0..marks.len() {
+        push_unmarked(&mut missing, index, marks[index])?;
+    }
+    Ok(missing)
+}
+
+// Appends the name at an index as one that is taken out of a list.
+fn push_but(text: &mut Vec<u8>, names: &[Vec<u8>], index: usize) -> Result<(), AllocError>
+    ensures { OnOk result (text.new.items ≡ text.old.items ++ codes ", !"
+        ++ table.name_at (map (λ v. v.items) names.now) index) }
+{
+    text.extend_from_slice(b", !")?;
+    if let Some(name) = names.get(index) {
+        text.extend_from_slice(name.as_slice())?;
+    }
+    Ok(())
+}
+
+// Returns all names but those at these indices.
+fn all_but(alloc: Global, names: &[Vec<u8>], indices: &[usize]) -> Result<Vec<u8>, AllocError>
+    ensures { IfOk result (λ text. text.items
+        ≡ table.all_but (map (λ v. v.items) names.now) indices.now) }
+{
+    let mut text = Vec::from_slice(alloc, b"ALL")?;
+    for index in indices {
+        push_but(&mut text, names, *index)?;
+    }
+    Ok(text)
+}
+
+// Whether a list of what is missing is brief.
+fn is_brief(missing: &[usize], numbers: &[usize]) -> bool
+    ensures { result ≡ nat_lt (4 * length missing.now) (length numbers.now) }
+{
+    match missing.len().checked_mul(4) {
+        Some(least) => least < numbers.len(),
+        None => false,
+    }
+}
+
+// Returns the names at these indices with a comma and a space between them, or `ALL` but those that are missing.
 fn names_text(alloc: Global, names: &[Vec<u8>], numbers: &[usize]) -> Result<Vec<u8>, AllocError>
     ensures { IfOk result (λ text. text.items
         ≡ table.names_text (map (λ v. v.items) names.now) numbers.now) }
 {
-    if numbers.len() == names.len() {
-        return Vec::from_slice(alloc, b"ALL");
+    let missing = missing(alloc, names.len(), numbers)?;
+    if is_brief(&missing, numbers) {
+        return all_but(alloc, names, &missing);
     }
     let separated = separated_names(alloc, names, numbers)?;
     joined(alloc, &separated)
@@ -171,6 +252,74 @@ fn asked_text(
     names_text(alloc, names, &there)
 }
 
+// Returns those of the groups that are asked for one by one.
+fn each_of(alloc: Global, groups: &[AskedGroups]) -> Result<Vec<Option<usize>>, AllocError>
+    ensures { IfOk result (λ each. each.items ≡ table.each_of groups.now) }
+{
+    let mut each = Vec::new(alloc);
+    let mut left = groups;
+    while let [first, rest @ ..] = left {
+        if let AskedGroups::One(index) = first {
+            each.push(*index)?;
+        }
+        left = rest;
+    }
+    Ok(each)
+}
+
+// Appends the text, if there is one, behind a comma and a space.
+fn push_separated(text: &mut Vec<u8>, part: &[u8]) -> Result<(), AllocError>
+    ensures { OnOk result (text.new.items ≡ text.old.items
+        ++ flat_map body.separated (table.text_if part.now)) }
+{
+    if part.is_empty() {
+        return Ok(());
+    }
+    text.extend_from_slice(b", ")?;
+    text.extend_from_slice(part)
+}
+
+// Returns what stands for groups that depend on the target.
+fn target_groups(groups: AskedGroups) -> &'static [u8]
+    ensures { table.text_if result.now ≡ table.by_target (groups ∷ []) }
+{
+    match groups {
+        AskedGroups::One(_) => b"",
+        AskedGroups::Own => b"(own)",
+        AskedGroups::Others => b"(others)",
+    }
+}
+
+// Appends what stands for those of the groups that depend on the target.
+fn push_target_groups(text: &mut Vec<u8>, groups: &[AskedGroups]) -> Result<(), AllocError>
+    ensures { OnOk result (text.new.items ≡ text.old.items
+        ++ flat_map body.separated (table.by_target groups.now)) }
+{
+    let mut left = groups;
+    while let [first, rest @ ..] = left {
+        push_separated(text, target_groups(*first))?;
+        left = rest;
+    }
+    Ok(())
+}
+
+// Returns the names of the groups that are asked for, and what stands for those that depend on the target.
+fn groups_text(
+    alloc: Global,
+    names: &[Vec<u8>],
+    groups: &[AskedGroups],
+) -> Result<Vec<u8>, AllocError>
+    ensures { IfOk result (λ text. text.items
+        ≡ table.groups_text (map (λ v. v.items) names.now) groups.now) }
+{
+    let each = each_of(alloc, groups)?;
+    let named = asked_text(alloc, names, &each)?;
+    let mut text = Vec::new(alloc);
+    push_separated(&mut text, &named)?;
+    push_target_groups(&mut text, groups)?;
+    joined(alloc, &text)
+}
+
 // Appends three further fields of a record.
 #[tactic(auto, unfolding(csv::specs::Writing::fields_text))]
 fn push_three(
@@ -196,7 +345,7 @@ fn row_head(alloc: Global, names: &Names, row: &Row) -> Result<Vec<u8>, AllocErr
     push_field(&mut head, &users)?;
     let hosts = names_text(alloc, &names.hosts, row.hosts.as_slice())?;
     let targets = asked_text(alloc, &names.users, row.targets.as_slice())?;
-    let groups = asked_text(alloc, &names.groups, row.groups.as_slice())?;
+    let groups = groups_text(alloc, &names.groups, row.groups.as_slice())?;
     push_three(&mut head, &hosts, &targets, &groups)?;
     Ok(head)
 }

@@ -1,5 +1,5 @@
 -- Classes of asks; only proofs of bodies need these definitions.
-use Rattle.std.specs.Prelude.{◌≡◌, ◌⊎◌, ℕ, List, [], ◌∷◌, filter, Option}
+use Rattle.std.specs.Prelude.{◌≡◌, ◌⊎◌, ℕ, true, List, [], ◌∷◌, filter, Option}
 use Rattle.std.specs.List.{Contains}
 use Rattle.sudo_match.specs.declared.people.Machine.{Machine}
 use Rattle.sudo_match.specs.declared.people.Person.{Person}
@@ -7,12 +7,14 @@ use Rattle.sudo_verdict.specs.Questions.{Question}
 use Rattle.review_compare.specs.declared.ask_class.AskClass.{AskClass}
 use Rattle.review_compare.specs.declared.ask_class.AskedWith.{AskedWith}
 use Rattle.review_compare.specs.declared.cell.Ask.{Ask}
+use Rattle.review_compare.specs.declared.cell.AskedGroups.{AskedGroups}
 use Rattle.review_compare.specs.declared.pair.Pair.{Pair}
 use Rattle.review_compare.specs.declared.spot.Listed.{Listed}
 use Rattle.review_compare.specs.Cells.{Decider}
+use Rattle.review_compare.specs.Differences.{Asking}
 use Rattle.review_compare.specs.Body.Chosen.{chosen, host_at}
 use Rattle.review_compare.specs.Body.Near.{changed_rows, near_deciders, near_of}
-use Rattle.review_compare.specs.Body.Progress.{ask_of}
+use Rattle.review_compare.specs.Body.Progress.{ask_of, asking}
 use Rattle.review_compare.specs.Body.SameRunas.{AreFirsts}
 
 -- the rows of the blocks between the common prefix and suffix
@@ -38,36 +40,52 @@ pub record Decide (p : Pair) (u : Person) (a : Ask) (l : Listed) : Type 0 where
   pub old : (m : Machine) → kept_old p (ask_of p u m a) ≡ on_old p m l
   pub new : (m : Machine) → kept_new p (ask_of p u m a) ≡ on_new p m l
 
-abbrev pub IsAskedWith : AskedWith → Ask → Type 0
-IsAskedWith w a = (w.group ≡ a.group) × Contains w.targets.items a.target
+abbrev pub IsAskedWith : Asking → AskedWith → Ask → Type 0
+IsAskedWith asks w a = (asks a.target a.group w.groups ≡ true) × Contains w.targets.items a.target
 
--- the targets with their group, as lists
-abbrev pub plain : AskedWith → Option ℕ × List (Option ℕ)
-plain w = (w.group, w.targets.items)
+-- the targets with their groups, as lists
+abbrev pub plain : AskedWith → AskedGroups × List (Option ℕ)
+plain w = (w.groups, w.targets.items)
 
 -- the ask is among them
-abbrev pub AreAsked : List AskedWith → Ask → Type 0
-AreAsked [] a = ⊥
-AreAsked (w ∷ ws) a = IsAskedWith w a ⊎ AreAsked ws a
+abbrev pub AreAsked : Asking → List AskedWith → Ask → Type 0
+AreAsked asks [] a = ⊥
+AreAsked asks (w ∷ ws) a = IsAskedWith asks w a ⊎ AreAsked asks ws a
 
--- the ask is among those of one of these
-abbrev pub HaveIn : {K : Type 0} → (K → List AskedWith) → List K → Ask → Type 0
-HaveIn asked [] a = ⊥
-HaveIn asked (k ∷ ks) a = AreAsked (asked k) a ⊎ HaveIn asked ks a
+-- one of these has the ask
+abbrev pub HaveIn : {K : Type 0} → (K → Ask → Type 0) → List K → Ask → Type 0
+HaveIn has [] a = ⊥
+HaveIn has (k ∷ ks) a = has k a ⊎ HaveIn has ks a
 
 -- one of the classes has the ask
-abbrev pub HaveAsk : List AskClass → Ask → Type 0
-HaveAsk ks a = HaveIn (λ k. k.asked.items) ks a
+abbrev pub HaveAsk : Asking → List AskClass → Ask → Type 0
+HaveAsk asks ks a = HaveIn (λ k b. AreAsked asks k.asked.items b) ks a
 
--- the asks with a further one
-pub record AddsAsked (old : List AskedWith) (ask : Ask) (new : List AskedWith) : Type 0 where
-  pub kept : (a : Ask) → AreAsked old a → AreAsked new a
-  pub added : AreAsked new ask
-  pub only : (a : Ask) → AreAsked new a → AreAsked old a ⊎ (ask ≡ a)
+-- the target is asked for, with one of these groups
+abbrev pub IsAskedFor : Asking → Option ℕ → AskedGroups → Ask → Type 0
+IsAskedFor asks target groups a = (target ≡ a.target) × (asks a.target a.group groups ≡ true)
+
+-- the asks with those for a target and some groups
+pub record AddsTarget (old : List AskedWith) (target : Option ℕ) (groups : AskedGroups) (new : List AskedWith) : Type 0 where
+  pub kept : (asks : Asking) (a : Ask) → AreAsked asks old a → AreAsked asks new a
+  pub added : (asks : Asking) (a : Ask) → IsAskedFor asks target groups a → AreAsked asks new a
+  pub only : (asks : Asking) (a : Ask) → AreAsked asks new a → AreAsked asks old a ⊎ IsAskedFor asks target groups a
+
+-- with a further one, as it is asked in rows of both policies
+pub record AddsAsked (p : Pair) (old : List AskedWith) (ask : Ask) (new : List AskedWith) : Type 0 where
+  pub kept : (a : Ask) → AreAsked (asking p) old a → AreAsked (asking p) new a
+  pub added : AreAsked (asking p) new ask
+  pub only : (a : Ask) → AreAsked (asking p) new a → AreAsked (asking p) old a ⊎ (ask ≡ a)
+
+-- with further ones
+pub record AddsAsks (p : Pair) (old : List AskedWith) (more : List Ask) (new : List AskedWith) : Type 0 where
+  pub kept : (a : Ask) → AreAsked (asking p) old a → AreAsked (asking p) new a
+  pub added : (a : Ask) → Contains more a → AreAsked (asking p) new a
+  pub only : (a : Ask) → AreAsked (asking p) new a → AreAsked (asking p) old a ⊎ Contains more a
 
 -- the same blocks decide each ask of the class
 abbrev pub IsAskClass : Pair → Person → AskClass → Type 0
-IsAskClass p u k = (a : Ask) → AreAsked k.asked.items a → Decide p u a k.allowing
+IsAskClass p u k = (a : Ask) → AreAsked (asking p) k.asked.items a → Decide p u a k.allowing
 
 -- for each of the blocks of both policies, a position at which one has the same runas
 pub record AreFirstsOf (p : Pair) (l firsts : Listed) : Type 0 where

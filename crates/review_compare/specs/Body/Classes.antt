@@ -14,7 +14,7 @@ use Rattle.review_compare.specs.Differences.{SameIf, question_at}
 use Rattle.review_compare.specs.Body.AskClasses.{AreAsked, changed_by}
 use Rattle.review_compare.specs.Body.Merged.{IsOnAmong, is_among}
 use Rattle.review_compare.specs.Body.Near.{IsFoundNear}
-use Rattle.review_compare.specs.Body.Progress.{AreListedIn, IsSpot}
+use Rattle.review_compare.specs.Body.Progress.{AreListedIn, IsSpot, asking}
 
 -- the same blocks of both policies
 abbrev pub AreSameBlocks : Listed → Listed → Type 0
@@ -33,7 +33,7 @@ IsRightIn p user hosts asked f = (c : Cell) → IsOnAmong user hosts asked c →
 -- so is what is found for each class of asks
 abbrev pub AreRightIn : Pair → ℕ → List ℕ → List AskClass → List Compared → Type 0
 AreRightIn p user hosts ks fs = (length fs ≡ length ks) × ((n : ℕ) (k : AskClass) (f : Compared) → n < length ks →
-    IsRightIn p user hosts (AreAsked (get_or ks n k).asked.items) (get_or fs n f))
+    IsRightIn p user hosts (AreAsked (asking p) (get_or ks n k).asked.items) (get_or fs n f))
 
 -- a class has the blocks that list the user on its first host; its finding for each class of asks is right on all its hosts
 pub record IsClass (p : Pair) (user : ℕ) (u : Person) (ks : List AskClass) (k : HostClass) : Type 0 where

@@ -8,7 +8,7 @@ use Rattle.review_compare.specs.declared.compared.Compared.{Compared}
 use Rattle.review_compare.specs.declared.row.Dimension.{Dimension}
 use Rattle.review_compare.specs.declared.row.Dimension.TheVariants as dimension
 use Rattle.review_compare.specs.declared.row.Row.{Row}
-use Rattle.review_compare.specs.Differences.{Finds, has_cell, same_number}
+use Rattle.review_compare.specs.Differences.{Asking, Finds, has_cell, same_number}
 use Rattle.review_compare.specs.Body.Comparisons.{IsCopy}
 
 abbrev pub same_cell : Cell → Cell → Bool
@@ -37,7 +37,7 @@ IsOnAmong user hosts asked c = (c.user ≡ user) × (is_among hosts c.host ≡ t
 
 -- the row has the cells of both, of which the same is found
 pub record IsJoined (r s t : Row) : Type 0 where
-  pub cells : (c : Cell) → has_cell t c ≡ (has_cell r c || has_cell s c)
+  pub cells : (asks : Asking) (c : Cell) → has_cell asks t c ≡ (has_cell asks r c || has_cell asks s c)
   pub first : t.found ≡ r.found
   pub second : t.found ≡ s.found
 
@@ -46,14 +46,15 @@ pub record IsRowOf (user : ℕ) (hosts : List ℕ) (w : AskedWith) (f : Compared
   pub users : r.users ≡ user ∷ []
   pub hosts_are : r.hosts ≡ hosts
   pub targets : r.targets ≡ w.targets.items
-  pub groups : r.groups ≡ w.group ∷ []
+  pub groups : r.groups ≡ w.groups ∷ []
   pub found : r.found ≡ f
 
 -- the rows with what is found for the user on the hosts, for some asks
-pub record AddsFound (old : List Row) (user : ℕ) (hosts : List ℕ) (asked : Ask → Type 0) (found : Compared) (new : List Row) : Type 0 where
-  pub kept : (c : Cell) (f : Compared) → Finds old c f → Finds new c f
-  pub added : (c : Cell) → IsOnAmong user hosts asked c → (f : Compared) × Finds new c f
-  pub only : (c : Cell) (f : Compared) → Finds new c f → Finds old c f ⊎ (IsOnAmong user hosts asked c × IsCopy found f)
+pub record AddsFound (asks : Asking) (old : List Row) (user : ℕ) (hosts : List ℕ) (asked : Ask → Type 0) (found : Compared)
+    (new : List Row) : Type 0 where
+  pub kept : (c : Cell) (f : Compared) → Finds asks old c f → Finds asks new c f
+  pub added : (c : Cell) → IsOnAmong user hosts asked c → (f : Compared) × Finds asks new c f
+  pub only : (c : Cell) (f : Compared) → Finds asks new c f → Finds asks old c f ⊎ (IsOnAmong user hosts asked c × IsCopy found f)
 
 -- the row with its hosts and its targets in another order
 pub record IsOrdered (r s : Row) : Type 0 where
@@ -71,15 +72,16 @@ AreOrdered _ _ = ⊥
 
 -- the rows with a further one: what each found, and no more
 pub record Absorbs (old : List Row) (row : Row) (new : List Row) : Type 0 where
-  pub kept : (c : Cell) (f : Compared) → Finds old c f → Finds new c f
-  pub added : (c : Cell) → has_cell row c ≡ true → Finds new c row.found
-  pub only : (c : Cell) (f : Compared) → Finds new c f → Finds old c f ⊎ ((has_cell row c ≡ true) × (row.found ≡ f))
+  pub kept : (asks : Asking) (c : Cell) (f : Compared) → Finds asks old c f → Finds asks new c f
+  pub added : (asks : Asking) (c : Cell) → has_cell asks row c ≡ true → Finds asks new c row.found
+  pub only : (asks : Asking) (c : Cell) (f : Compared) → Finds asks new c f →
+      Finds asks old c f ⊎ ((has_cell asks row c ≡ true) × (row.found ≡ f))
 
 -- the rows with further ones
 pub record AbsorbsAll (old more new : List Row) : Type 0 where
-  pub kept : (c : Cell) (f : Compared) → Finds old c f → Finds new c f
-  pub added : (c : Cell) (f : Compared) → Finds more c f → Finds new c f
-  pub only : (c : Cell) (f : Compared) → Finds new c f → Finds old c f ⊎ Finds more c f
+  pub kept : (asks : Asking) (c : Cell) (f : Compared) → Finds asks old c f → Finds asks new c f
+  pub added : (asks : Asking) (c : Cell) (f : Compared) → Finds asks more c f → Finds asks new c f
+  pub only : (asks : Asking) (c : Cell) (f : Compared) → Finds asks new c f → Finds asks old c f ⊎ Finds asks more c f
 
 -- the rows with their hosts and targets in another order, and then some of them as one
 pub record AreMerged (rows new : List Row) : Type 0 where

@@ -11,16 +11,21 @@ use Rattle.review_compare.specs.declared.pair.Pair.{Pair}
 use Rattle.review_compare.specs.declared.spot.Listed.{Listed}
 use Rattle.review_compare.specs.declared.spot.Spot.{Spot}
 use Rattle.review_compare.specs.declared.row.Row.{Row}
-use Rattle.review_compare.specs.Differences.{Finds, IsFound, IsDone, is_host_if, is_user_if, known_at}
+use Rattle.review_compare.specs.Differences.{Asking, Finds, IsFound, IsDone, is_asked, is_host_if, is_user_if, known_at}
 use Rattle.review_compare.specs.Cells.{SaySame}
 use Rattle.review_compare.specs.Body.Chosen.{AreListed, HaveAllOf, user_at}
 
+-- what rows of both policies ask for
+abbrev pub asking : Pair → Asking
+asking p = is_asked p.directory.now p.groups.now
+
 -- rows that were found before are found after, what is found is right if it was before, and these cells are done
 pub record Progress (p : Pair) (before after : List Row) (done_with : Cell → Type 0) : Type 0 where
-  pub kept : (c : Cell) (f : Compared) → Finds before c f → Finds after c f
-  pub right : ((c : Cell) (f : Compared) → Finds before c f → IsFound p.old.checked.now p.new.checked.now p.directory.now p.groups.now c f)
-      →
-      (c : Cell) (f : Compared) → Finds after c f → IsFound p.old.checked.now p.new.checked.now p.directory.now p.groups.now c f
+  pub kept : (c : Cell) (f : Compared) → Finds (asking p) before c f → Finds (asking p) after c f
+  pub right :
+      ((c : Cell) (f : Compared) → Finds (asking p) before c f →
+      IsFound p.old.checked.now p.new.checked.now p.directory.now p.groups.now c f) →
+      (c : Cell) (f : Compared) → Finds (asking p) after c f → IsFound p.old.checked.now p.new.checked.now p.directory.now p.groups.now c f
   pub done : (c : Cell) → done_with c → IsDone p.old.checked.now p.new.checked.now p.directory.now p.groups.now after c
 
 -- the blocks of both policies for the user on the host

@@ -4,6 +4,7 @@ use Rattle.sudo_base.proofs.Options.{on_ok}
 use Rattle.review_compare.specs.declared.ask_class.AskClass.{AskClass}
 use Rattle.review_compare.specs.Body.AskClasses.{AreAsked, HaveAsk, IsAskClass}
 use Rattle.review_compare.specs.Body.Classes.{AreSameBlocks}
+use Rattle.review_compare.specs.Body.Progress.{asking}
 use Rattle.review_compare.proofs.AskLemmas.{class-added, class-has, class-kept, class-of-one, classes-first, classes-last}
 use Rattle.review_compare.proofs.ask_class.add_ask.Goals as goal
 
@@ -26,10 +27,10 @@ returns-in-Some c =
           (λ adds. All-set (IsAskClass p u) ks i k (class-added p u r k c.args.ask c.args.allowing is same c.requires.decide refl adds)
           c.requires.are)
           c.push_asked.ensures;
-      has = on_ok c.push_asked.result (λ adds. class-has ks i k c.args.ask less adds.added) c.push_asked.ensures;
+      has = on_ok c.push_asked.result (λ adds. class-has (asking p) ks i k c.args.ask less adds.added) c.push_asked.ensures;
       kept = on_ok c.push_asked.result
-          (λ adds a there. class-kept ks i r k less
-          (λ b e. adds.kept b (subst (λ (j : AskClass). AreAsked j.asked.items b) (sym own) e)) a there)
+          (λ adds a there. class-kept (asking p) ks i r k less
+          (λ b e. adds.kept b (subst (λ (j : AskClass). AreAsked (asking p) j.asked.items b) (sym own) e)) a there)
           c.push_asked.ensures;
     }
 
@@ -45,6 +46,7 @@ returns-in_ok-push-in-None c =
       are = subst (λ (js : List AskClass). All (IsAskClass p u) js) (sym items)
           (All-push (IsAskClass p u) ks k c.requires.are
           (class-of-one p u k c.args.ask c.args.allowing c.requires.decide one.0 one.1));
-      has = subst (λ (js : List AskClass). HaveAsk js c.args.ask) (sym items) (classes-last ks k c.args.ask (one.1).added);
-      kept = λ a there. subst (λ (js : List AskClass). HaveAsk js a) (sym items) (classes-first ks k a there);
+      has = subst (λ (js : List AskClass). HaveAsk (asking p) js c.args.ask) (sym items)
+          (classes-last (asking p) ks k c.args.ask (one.1).added);
+      kept = λ a there. subst (λ (js : List AskClass). HaveAsk (asking p) js a) (sym items) (classes-first (asking p) ks k a there);
     }

@@ -5,6 +5,7 @@ use Rattle.review_compare.specs.declared.ask_class.AskClass.{AskClass}
 use Rattle.review_compare.specs.declared.ask_class.AskedWith.{AskedWith}
 use Rattle.review_compare.specs.Body.AskClasses.{AreAsked, HaveAsk, IsAskClass, plain}
 use Rattle.review_compare.specs.Body.Classes.{AreSameBlocks}
+use Rattle.review_compare.specs.Body.Progress.{asking}
 use Rattle.review_compare.proofs.AskLemmas.{class-has, class-kept, classes-first, classes-last}
 use Rattle.review_compare.proofs.SharedLemmas.{class-of-shared, class-shared, more-copied, own-copied, plain-asked}
 use Rattle.review_compare.proofs.ask_class.add_shared.Goals as goal
@@ -32,12 +33,13 @@ returns-in-Some c =
           (class-shared p u r k s c.args.allowing is same c.requires.shared c.requires.decide refl (moved copied)) c.requires.are)
           c.push_copies.ensures;
       has = on_ok c.push_copies.result
-          (λ copied a e. class-has ks i k a less (more-copied r.asked.items s.asked.items k.asked.items (moved copied) a e))
+          (λ copied a e. class-has (asking p) ks i k a less (more-copied (asking p) r.asked.items s.asked.items k.asked.items
+          (moved copied) a e))
           c.push_copies.ensures;
       kept = on_ok c.push_copies.result
-          (λ copied a there. class-kept ks i r k less
-          (λ b e. own-copied r.asked.items s.asked.items k.asked.items (moved copied) b
-          (subst (λ (j : AskClass). AreAsked j.asked.items b) (sym own) e)) a there)
+          (λ copied a there. class-kept (asking p) ks i r k less
+          (λ b e. own-copied (asking p) r.asked.items s.asked.items k.asked.items (moved copied) b
+          (subst (λ (j : AskClass). AreAsked (asking p) j.asked.items b) (sym own) e)) a there)
           c.push_copies.ensures;
     }
 
@@ -55,7 +57,7 @@ returns-in_ok-push-in-None c =
       are = subst (λ (js : List AskClass). All (IsAskClass p u) js) (sym items)
           (All-push (IsAskClass p u) ks k c.requires.are
           (class-of-shared p u k s c.args.allowing c.requires.shared c.requires.decide one.0 copied));
-      has = λ a there. subst (λ (js : List AskClass). HaveAsk js a) (sym items)
-          (classes-last ks k a (plain-asked s.asked.items k.asked.items (sym copied) a there));
-      kept = λ a there. subst (λ (js : List AskClass). HaveAsk js a) (sym items) (classes-first ks k a there);
+      has = λ a there. subst (λ (js : List AskClass). HaveAsk (asking p) js a) (sym items)
+          (classes-last (asking p) ks k a (plain-asked (asking p) s.asked.items k.asked.items (sym copied) a there));
+      kept = λ a there. subst (λ (js : List AskClass). HaveAsk (asking p) js a) (sym items) (classes-first (asking p) ks k a there);
     }

@@ -6,6 +6,6 @@ use Rattle.review_compare.proofs.ask_class.class_alone.Goals as goal
 pub returns : goal.returns
 returns c = (
   refl,
-  subst (λ (ws : List AskedWith). AddsAsked ws c.args.ask c.push_asked.new.asked.items) c.new-asked.ensures.items
+  subst (λ (ws : List AskedWith). AddsAsked c.args.pair.now ws c.args.ask c.push_asked.new.asked.items) c.new-asked.ensures.items
       c.in_ok-push_asked.ensures,
 )

@@ -12,7 +12,7 @@ loop-ask-preserved c =
     let asks = c.args.asks.now in
     let adds = c.in_ok-add_ask.ensures in (
       adds.are,
-      asks-more asks n _ c.loop-ask.classes.items c.add_ask.new.classes.items c.loop-ask-test.true
+      asks-more c.args.pair.now asks n _ c.loop-ask.classes.items c.add_ask.new.classes.items c.loop-ask-test.true
           (index-there asks n _ c.loop-ask-test.true) c.loop-ask.invariant.1 adds.kept adds.has,
     )
 

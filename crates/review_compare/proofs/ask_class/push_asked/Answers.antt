@@ -1,24 +1,9 @@
-use Rattle.std.proofs.Common.{◌≡◌, ◌<◌, ◌++◌, ◌∷◌, ◌∙◌, [], List, ap, get_or, length, subst, sym}
-use Rattle.review_compare.specs.declared.ask_class.AskedWith.{AskedWith}
-use Rattle.review_compare.specs.Body.AskClasses.{AddsAsked}
-use Rattle.review_compare.proofs.AskLemmas.{alone-added, target-added}
+use Rattle.sudo_base.proofs.Options.{on_ok}
+use Rattle.review_compare.proofs.AskLemmas.{ask-added}
 use Rattle.review_compare.proofs.ask_class.push_asked.Goals as goal
 
-pub returns-in_ok-push-in-Some : goal.returns-in_ok-push-in-Some
-returns-in_ok-push-in-Some c =
-    let ws = c.args.asked.now.items in
-    let i = c.in-Some.index in
-    let r = c.index_mut.result.now in
-    let v : AskedWith = record { group = r.group; targets = c.push.new.self } in
-    let own = c.index_mut.ensures.value in
-    target-added c.args.ask v ws i r
-    (subst (λ (vs : List AskedWith). i < length vs) c.deref.ensures.value c.in-Some.ensures.0)
-    (subst (λ (vs : List AskedWith). (get_or vs i r).group ≡ c.args.ask.group) c.deref.ensures.value (c.in-Some.ensures.1 r))
-    (ap (λ (w : AskedWith). w.group) own)
-    (c.in_ok-push-in-Some.ensures.items ∙ ap (λ (w : AskedWith). w.targets.items ++ c.args.ask.target ∷ []) own)
-
-pub returns-in_ok-push-in-None : goal.returns-in_ok-push-in-None
-returns-in_ok-push-in-None c =
-    subst (λ (vs : List AskedWith). AddsAsked c.args.asked.now.items c.args.ask vs) (sym c.in_ok-push-in-None.ensures.items)
-    (alone-added c.args.asked.now.items c.in_ok-alone-in-None.alone c.args.ask c.in_ok-alone-in-None.ensures.only
-    c.in_ok-alone-in-None.ensures.has)
+pub returns : goal.returns
+returns c =
+    on_ok c.push_target.result
+    (λ adds. ask-added c.args.pair.now c.args.asked.now.items c.push_target.new.asked.items c.args.ask adds)
+    c.push_target.ensures

@@ -2,13 +2,14 @@ use Rattle.std.proofs.Common.{Global, Vec, option_copied}
 use Rattle.std.proofs.lemmas.Result.{IfOk-weaker}
 use Rattle.review_compare.specs.declared.row.Row.{Row}
 use Rattle.review_compare.specs.Body.AskClasses.{HaveAsk}
+use Rattle.review_compare.specs.Body.Progress.{asking}
 use Rattle.review_compare.proofs.ClassLemmas.{classes-done}
 use Rattle.review_compare.proofs.differences.rows_for_asked.Goals as goal
 
 pub returns : goal.returns
 returns c =
     let p = c.args.pair.now in
-    let asked = HaveAsk c.args.asked.now in
+    let asked = HaveAsk (asking c.args.pair.now) c.args.asked.now in
     let ks = c.in_ok-classes.classes.items in
     record {
       all = IfOk-weaker c.rows_of.result _ _

@@ -4,7 +4,7 @@ use Rattle.review_compare.specs.declared.host_class.HostClass.{HostClass}
 use Rattle.review_compare.specs.declared.row.Row.{Row}
 use Rattle.review_compare.specs.Body.AskClasses.{HaveAsk}
 use Rattle.review_compare.specs.Body.Classes.{IsOnClasses}
-use Rattle.review_compare.specs.Body.Progress.{Progress}
+use Rattle.review_compare.specs.Body.Progress.{Progress, asking}
 use Rattle.review_compare.proofs.ClassLemmas.{classes-joined}
 use Rattle.review_compare.proofs.SpotLemmas.{ordered-done}
 use Rattle.review_compare.proofs.host_class.rows_of.Goals as goal
@@ -13,7 +13,7 @@ pub returns : goal.returns
 returns c =
     let p = c.args.pair.now in
     let user = c.args.user in
-    let asked = HaveAsk c.args.asked.now in
+    let asked = HaveAsk (asking c.args.pair.now) c.args.asked.now in
     let ks = c.args.classes.items in
     let js = c.in_ok-joined.joined.items in
     let rows = c.in_ok-rows.rows.items in

@@ -4,7 +4,7 @@ use Rattle.review_compare.specs.declared.host_class.HostClass.{HostClass}
 use Rattle.review_compare.specs.Body.AskClasses.{HaveAsk}
 use Rattle.review_compare.specs.Body.Classes.{IsOnClasses}
 use Rattle.review_compare.specs.Body.Merged.{IsOnAmong}
-use Rattle.review_compare.specs.Body.Progress.{Progress}
+use Rattle.review_compare.specs.Body.Progress.{Progress, asking}
 use Rattle.review_compare.proofs.ClassLemmas.{class-step}
 use Rattle.review_compare.proofs.DifferenceLemmas.{all-added}
 use Rattle.review_compare.proofs.host_class.rows_of_each.Goals as goal
@@ -13,7 +13,7 @@ pub loop-class-preserved : goal.loop-class-preserved
 loop-class-preserved c =
     let p = c.args.pair.now in
     let user = c.args.user in
-    let asked = HaveAsk c.args.asked.now in
+    let asked = HaveAsk (asking c.args.pair.now) c.args.asked.now in
     let k = c.class-item.result in
     let more = c.in_ok-more.more.items in
     let made = subst (λ (hosts : List ℕ). Progress p [] more (IsOnAmong user hosts asked)) c.deref.ensures.value c.in_ok-more.ensures in
@@ -25,5 +25,5 @@ loop-class-preserved c =
 pub returns : goal.returns
 returns c =
     subst (λ (js : List HostClass). Progress c.args.pair.now [] c.loop-class.rows.items
-    (IsOnClasses c.args.user js (HaveAsk c.args.asked.now)))
+    (IsOnClasses c.args.user js (HaveAsk (asking c.args.pair.now) c.args.asked.now)))
     (take_all c.loop-class.class-index c.args.classes.now (omega (arith, c.loop-class-test.false))) c.loop-class.invariant

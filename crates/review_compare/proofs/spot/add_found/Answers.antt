@@ -5,6 +5,6 @@ use Rattle.review_compare.proofs.spot.add_found.Goals as goal
 pub returns : goal.returns
 returns c =
     on_ok c.absorb.result
-    (adds-row c.args.rows.now.items c.absorb.new.rows.items c.args.user c.args.hosts.now c.args.asked.now c.args.found.now _
-    c.in_ok-row.row c.in_ok-row.ensures c.in_ok-copy.ensures)
+    (λ absorbs asks. adds-row asks c.args.rows.now.items c.absorb.new.rows.items c.args.user c.args.hosts.now c.args.asked.now
+    c.args.found.now _ c.in_ok-row.row c.in_ok-row.ensures c.in_ok-copy.ensures absorbs)
     c.absorb.ensures

@@ -5,7 +5,7 @@ use Rattle.review_compare.specs.declared.ask_class.AskClass.{AskClass}
 use Rattle.review_compare.specs.declared.row.Row.{Row}
 use Rattle.review_compare.specs.Body.AskClasses.{HaveAsk}
 use Rattle.review_compare.specs.Body.Merged.{IsOnAmong}
-use Rattle.review_compare.specs.Body.Progress.{Progress}
+use Rattle.review_compare.specs.Body.Progress.{Progress, asking}
 use Rattle.review_compare.proofs.SpotLemmas.{class-more, merged-done}
 use Rattle.review_compare.proofs.spot.rows_on.Goals as goal
 
@@ -23,8 +23,8 @@ returns c =
     let user = c.args.user in
     let hosts = c.args.hosts.now in
     let ks = c.args.classes.now in
-    let done = subst (λ (js : List AskClass). Progress p [] c.loop-index.rows.items (IsOnAmong user hosts (HaveAsk js)))
+    let done = subst (λ (js : List AskClass). Progress p [] c.loop-index.rows.items (IsOnAmong user hosts (HaveAsk (asking p) js)))
     (take_all c.loop-index.index ks (omega (arith, c.loop-index-test.false))) c.loop-index.invariant.0 in
     IfOk-weaker c.merged.result _ _
-    (λ (new : Vec Row Global) are. merged-done p c.loop-index.rows.items new.items (IsOnAmong user hosts (HaveAsk ks)) are done)
+    (λ (new : Vec Row Global) are. merged-done p c.loop-index.rows.items new.items (IsOnAmong user hosts (HaveAsk (asking p) ks)) are done)
     c.merged.ensures

@@ -1,15 +1,21 @@
-use Rattle.std.proofs.Common.{◌≡◌, ◌∙◌, List, ℕ, Vec, Global, ap, length, map}
-use Rattle.std.specs.Prelude.{drop}
+use Rattle.std.proofs.Common.{◌≡◌, ◌∙◌, List, ℕ, Vec, Global, ap, false, length, map, sym}
+use Rattle.std.specs.Prelude.{◌*◌, drop, nat_lt}
 use Rattle.std.proofs.lemmas.List.{length-map}
 use Rattle.std.proofs.lemmas.Result.{IfOk-weaker}
-use Rattle.review_compare.proofs.TextLemmas.{differ, names-joined}
+use Rattle.review_compare.specs.Table.{missing}
+use Rattle.review_compare.proofs.TextLemmas.{names-joined}
 use Rattle.review_compare.proofs.text.names_text.Goals as goal
 
 pub returns : goal.returns
 returns c =
     let names : List (List ℕ) = map (λ v. v.items) c.args.names.now in
+    let numbers = c.args.numbers.now in
     let long : length names ≡ length c.args.names.now = length-map c.args.names.now (λ v. v.items) in
+    let few : nat_lt (4 * length (missing (length names) numbers)) (length numbers) ≡ false =
+    ap (λ k. nat_lt (4 * length (missing k numbers)) (length numbers)) long
+    ∙ ap (λ (xs : List ℕ). nat_lt (4 * length xs) (length numbers)) (sym c.in_ok-missing.ensures)
+    ∙ ap (λ (xs : List ℕ). nat_lt (4 * length xs) (length numbers)) (sym c.deref.ensures.value)
+    ∙ sym c.is_brief.ensures ∙ c.if-is_brief.false in
     IfOk-weaker c.joined.result _ _
-    (λ (text : Vec ℕ Global) is. is ∙ ap (drop 2) (c.deref.ensures.value ∙ c.in_ok-separated.ensures)
-    ∙ names-joined names c.args.numbers.now (differ (length c.args.numbers.now) (length names) (λ e. c.if-numbers-names.false (e ∙ long))))
+    (λ (text : Vec ℕ Global) is. is ∙ ap (drop 2) (c.deref-2.ensures.value ∙ c.in_ok-separated.ensures) ∙ names-joined names numbers few)
     c.joined.ensures
