@@ -246,7 +246,7 @@ class-of-one p u k ask l decide allowing adds a e = subst (Decide p u a) (sym al
 -- one ask more is in a class
 pub asks-more : (p : Pair) (asks : List Ask) (n : ℕ) (ask : Ask) (ks js : List AskClass) → n < length asks → ask ≡ get_or asks n ask →
     ((a : Ask) → Contains (take n asks) a → HaveAsk (asking p) ks a) → ((a : Ask) → HaveAsk (asking p) ks a → HaveAsk (asking p) js a) →
-        HaveAsk (asking p) js ask →
+    HaveAsk (asking p) js ask →
     (a : Ask) → Contains (take (n + 1) asks) a → HaveAsk (asking p) js a
 asks-more p asks n ask ks js less is so_far kept has a there =
     go (Contains-push_cases (take n asks) ask a (subst (λ (xs : List Ask). Contains xs a) (take-more asks n ask less is) there))

@@ -2,7 +2,6 @@
 use Rattle.std.proofs.Common.{◌≡◌, ◌<◌, ◌+◌, ◌∙◌, ◌⊎◌, inl, inr, ℕ, Bool, true, false, cond, List, [], ◌∷◌, ◌++◌, ap, arith}
 use Rattle.std.proofs.Common.{refl, subst, sym}
 use Rattle.std.proofs.Common.{get_or, length, take, Option, None, Some}
-use Rattle.std.specs.Prelude.{not, slice_get}
 use Rattle.std.specs.List.{Contains}
 use Rattle.std.proofs.lemmas.List.Elements.{Contains-append_cases, Contains-append_left, Contains-append_right, Contains-push}
 use Rattle.std.proofs.lemmas.List.Elements.{Contains-push_cases}
@@ -16,7 +15,7 @@ use Rattle.review_compare.specs.declared.pair.Pair.{Pair}
 use Rattle.review_compare.specs.Differences.{has_if, is_exactly, known_at}
 use Rattle.review_compare.specs.Body.AskClasses.{AddsAsked, AddsAsks, AddsTarget, AreAsked, IsAskedFor}
 use Rattle.review_compare.specs.Body.Brief.{AreBut, HasEach, HasEachBelow}
-use Rattle.review_compare.specs.Body.Progress.{AreLeftUnless, asking}
+use Rattle.review_compare.specs.Body.Progress.{asking}
 use Rattle.review_compare.proofs.DifferenceLemmas.{left-more, there-of}
 use Rattle.review_compare.proofs.UnchangedLemmas.{less-or}
 

@@ -1,8 +1,8 @@
 -- Names with a comma and a space between them, and the records of rows.
-use Rattle.std.proofs.Common.{◌≡◌, ◌∙◌, ℕ, Bool, true, false, cond, List, [], ◌∷◌, ◌++◌, ap, flat_map, length, map, refl, sym}
+use Rattle.std.proofs.Common.{◌≡◌, ◌∙◌, ℕ, Bool, false, cond, List, [], ◌∷◌, ◌++◌, ap, flat_map, length, map, refl, sym}
 use Rattle.std.proofs.Common.{arith, ◌+◌, suc}
 use Rattle.std.specs.Prelude.{◌*◌, Option, None, Some, codes, drop, filter, nat_lt, not}
-use Rattle.std.specs.List.{list_any, range_with_len}
+use Rattle.std.specs.List.{range_with_len}
 use Rattle.std.proofs.lemmas.List.Elements.{filter-append}
 use Rattle.review_grants.specs.GrantRows.{joined}
 use Rattle.csv.specs.Writing.{default_writer, fields_text}

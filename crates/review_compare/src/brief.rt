@@ -1,6 +1,6 @@
 //! Asks in brief: a target that is asked for with each group that it has, or with each that it has not, takes one entry for these
 //! groups.
-ghost use Rattle.std.specs.Prelude.{◌≡◌, ◌≤◌, ◌<◌, ◌++◌, ℕ, [], get_or, IfOk, IfSome, length, OnOk, Some, true};
+ghost use Rattle.std.specs.Prelude.{◌≡◌, ◌≤◌, ◌<◌, [], IfOk, IfSome, length, OnOk, true};
 ghost use Rattle.std.specs.List.{Contains};
 ghost use Rattle.review_compare.specs.Differences as differences;
 ghost use Rattle.review_compare.specs.Body.AskClasses.{AddsAsks, IsAskedFor};

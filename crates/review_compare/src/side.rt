@@ -252,19 +252,22 @@ impl Side<'_> {
         Ok(indices)
     }
 
-    /// Returns those of the indices whose host list allows the host. Returns `AllocError` if allocation fails.
+    /// Returns those of the indices whose host list allows the host, which was looked up for some blocks. Returns `AllocError` if
+    /// allocation fails.
     pub(crate) fn on_host(
         &self,
         alloc: Global,
         host: &Machine,
         indices: &[usize],
+        marks: &[Option<bool>],
     ) -> Result<Vec<usize>, AllocError>
+        requires { body.AreMarks self.now.checked.now self.now.blocks.items host.now marks.now }
         ensures { IfOk result (λ on. on.items ≡ filter (body.host_at self.now.checked.now
             self.now.blocks.items host.now) indices.now) }
     {
         let mut on = Vec::new(alloc);
         for index in indices {
-            push_if(&mut on, *index, self.lists_host_at(*index, host))?;
+            push_if(&mut on, *index, self.lists_host_by(marks, *index, host))?;
         }
         Ok(on)
     }

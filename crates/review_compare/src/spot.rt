@@ -34,21 +34,25 @@ pub(crate) struct Spot<'a> {
     pub(crate) machine: &'a Machine,
 }
 
-// Compares the policies on the host for the asks of a class.
+// Compares the policies on the host of the spot for the asks of a class.
 fn found_on(
     alloc: Global,
     pair: &Pair<'_>,
-    machine: &Machine,
+    spot: Spot<'_>,
     class: &AskClass,
     comparisons: &mut Vec<Comparison>,
 ) -> Result<Compared, AllocError>
-    requires { All (IsRight pair.now) comparisons.old.items }
-    ensures found { IfOk result (IsCompared (on_old pair.entry.now machine.entry.now
-        class.now.allowing) (on_new pair.entry.now machine.entry.now class.now.allowing)) }
+    requires spot { body.IsSpot pair.now spot }
+    requires right { All (IsRight pair.now) comparisons.old.items }
+    ensures found { IfOk result (IsCompared (on_old pair.entry.now spot.entry.machine.now
+        class.now.allowing) (on_new pair.entry.now spot.entry.machine.now class.now.allowing)) }
     ensures right { OnOk result (All (IsRight pair.entry.now) comparisons.new.items) }
 {
-    let old = pair.old.on_host(alloc, machine, &class.allowing.old)?;
-    let new = pair.new.on_host(alloc, machine, &class.allowing.new)?;
+    let (machine, allowing) = (spot.machine, &class.allowing);
+    let old_marks = pair.old_marks(spot.host);
+    let new_marks = pair.new_marks(spot.host);
+    let old = pair.old.on_host(alloc, machine, &allowing.old, old_marks)?;
+    let new = pair.new.on_host(alloc, machine, &allowing.new, new_marks)?;
     found_of(alloc, pair, comparisons, old, new)
 }
 
@@ -67,7 +71,7 @@ fn found_at(
         (AreAsked (body.asking pair.entry.now) class.entry.now.asked.items)) }
     ensures right { OnOk result (All (IsRight pair.entry.now) comparisons.new.items) }
 {
-    found_on(alloc, pair, spot.machine, class, comparisons)
+    found_on(alloc, pair, spot, class, comparisons)
 }
 
 /// Compares the policies at the spot for the asks of each class. Returns `AllocError` if allocation fails.

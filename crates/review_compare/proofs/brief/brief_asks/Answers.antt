@@ -1,4 +1,4 @@
-use Rattle.std.proofs.Common.{◌++◌, List, arith, length, subst}
+use Rattle.std.proofs.Common.{List, subst}
 use Rattle.review_compare.specs.declared.cell.Ask.{Ask}
 use Rattle.review_compare.proofs.BriefLemmas.{IsBriefSoFar, brief-more}
 use Rattle.review_compare.proofs.brief.brief_asks.Goals as goal

@@ -9,6 +9,6 @@ use Rattle.review_compare.proofs.differences.classes_for.Given as goal
 abbrev pub invariant-loop-host : goal.invariant-loop-host
 invariant-loop-host l =
     ((c : Cell) → IsBefore l.pair (option_copied l.scope) l.fn.user l.host (HaveAsk (asking l.pair) l.asked) c →
-        IsClassed l.pair l.classes.items c)
+    IsClassed l.pair l.classes.items c)
     × All (IsClass l.pair l.fn.user l.person l.asked) l.classes.items
     × All (IsRight l.pair) l.comparisons.items

@@ -10,7 +10,7 @@ use Rattle.review_compare.proofs.spot.found_on.Goals as goal
 pub returns : goal.returns
 returns c =
     let p = c.args.pair.now in
-    let m = c.args.machine.now in
+    let m = c.args.spot.machine.now in
     let old = c.in_ok-old.ensures ∙ ap (filter (host_at p.old.checked.now p.old.blocks.items m)) c.deref.ensures.value in
     let new = c.in_ok-new.ensures ∙ ap (filter (host_at p.new.checked.now p.new.blocks.items m)) c.deref-2.ensures.value in
     record {

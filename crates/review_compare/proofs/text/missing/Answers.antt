@@ -1,4 +1,4 @@
-use Rattle.std.proofs.Common.{◌≡◌, ◌∙◌, ◌++◌, ◌∷◌, [], List, ℕ, Bool, ap, arith, cond, sym}
+use Rattle.std.proofs.Common.{◌≡◌, ◌∙◌, ◌++◌, ◌∷◌, [], List, ℕ, ap, arith, cond, sym}
 use Rattle.std.specs.Prelude.{not}
 use Rattle.review_compare.specs.Table.{missing}
 use Rattle.review_compare.specs.Body.Merged.{is_among}
