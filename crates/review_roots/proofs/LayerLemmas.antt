@@ -54,7 +54,7 @@ aims-there q l n (g ∷ fs) (suc k) f at =
     aims-there q l (n + 1) fs k f at ∙ ap (λ i. Some (aim_of q l i f)) (let e : (n + 1) + k ≡ n + suc k = omega arith in e)
 
 -- what stands there is such an aim
-aims-are :
+pub aims-are :
     (q : Sought) (l : Level) (n : ℕ) (fs : List Found) (k : ℕ) (a : Aim) → slice_get (aims_from q l n fs) k ≡ Some a →
     (f : Found) × ((slice_get fs k ≡ Some f) × (a ≡ aim_of q l (n + k) f))
 aims-are q l n [] k a at = cc

@@ -12,6 +12,7 @@ pub mod OrderLemmas
 pub mod LayerLemmas
 pub mod LikeLemmas
 pub mod FirstLemmas
+pub mod NotedLemmas
 pub mod EffectLemmas
 pub mod SettledLemmas
 pub mod StartLemmas

@@ -6,6 +6,7 @@ pub mod Rows
 pub mod Candidates
 pub mod Towards
 pub mod Found
+pub mod Firsts
 pub mod Unnamed
 pub mod Kept
 pub mod Naming

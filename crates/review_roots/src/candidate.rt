@@ -5,7 +5,7 @@ ghost use Rattle.review_roots.specs.Blocks.{lists};
 ghost use Rattle.review_roots.specs.Body.Candidates as spec;
 ghost use Rattle.review_roots.specs.Body.Naming.{AreRows, IsBase};
 ghost use Rattle.review_roots.specs.Body.Raising.{indices};
-ghost use Rattle.review_roots.specs.Body.Towards.{IsToward};
+ghost use Rattle.review_roots.specs.Body.Towards.{HasStrong, IsToward};
 ghost use Rattle.review_roots.specs.States.{person_of};
 ghost use Rattle.review_roots.specs.declared.candidate.Candidate.{Candidate as TheCandidate};
 
@@ -143,14 +143,17 @@ fn person_at(
 
 // Returns what steps to a state depend on, if it has no added group: steps to another one are not found by it.
 fn toward_alone(alloc: Global, ground: Ground<'_, '_>, state: State) -> Result<Toward, AllocError>
-    ensures { IfOk result (λ toward. state.added ≡ None → IsToward ground.entry.checked.now
-        ground.entry.directory.now ground.entry.groups.now ground.entry.blocks.now state
-        toward) }
+    ensures toward { IfOk result (λ toward. state.added ≡ None → IsToward
+        ground.entry.checked.now ground.entry.directory.now ground.entry.groups.now
+        ground.entry.blocks.now state toward) }
+    ensures strong { IfOk result (λ toward. state.added ≡ None → HasStrong ground.entry.least
+        ground.entry.blocks.now toward) }
 {
     if state.added.is_some() {
         return Ok(Toward {
             state,
             allowed: Vec::new(alloc),
+            strong: Vec::new(alloc),
         });
     }
     let toward = toward_at(alloc, ground, state)?;

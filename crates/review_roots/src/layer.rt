@@ -1,15 +1,18 @@
 //! The steps to the found states whose chains have as many steps: each candidate takes the first of these to which it has one.
-ghost use Rattle.std.specs.Prelude.{◌≡◌, ◌⊎◌, ◌++◌, ◌==◌, All, IfOk, IsTrue, None, OnOk, Some, false, filter, is_some, map};
+ghost use Rattle.std.specs.Prelude.{◌≡◌, ◌⊎◌, ◌++◌, ◌==◌, All, IfOk, IsTrue, None, OnOk, Some, false, filter, is_some, map, take};
 ghost use Rattle.std.specs.Prelude.{not, true};
 ghost use Rattle.std.specs.List.{filter_map};
 ghost use Rattle.review_roots.specs.Body.Found as spec;
 ghost use Rattle.review_roots.specs.Body.Found.{AreDeep, IsAimed, IsCandidate, aims_at, first_of, reaches};
+ghost use Rattle.review_roots.specs.Body.Firsts.{IsLayer};
+ghost use Rattle.review_roots.specs.Body.Towards.{HasStrong};
 ghost use Rattle.review_roots.specs.Ranks.{is_at_least};
 ghost use Rattle.review_roots.specs.Ways.{step_on};
 ghost use Rattle.review_roots.specs.declared.given.Given.{Given as TheGiven};
 
 use crate::Level;
 use crate::candidate::Candidate;
+use crate::firsts::Firsts;
 use crate::given::Given;
 use crate::host::HostSteps;
 use crate::search::{Aim, Found, Sought, reached};
@@ -34,8 +37,8 @@ pub(crate) struct Aimed<'r> {
 }
 
 impl AnyToward<'_> {
-    // Returns what the steps depend on.
-    fn get(&self) -> &Toward
+    /// Returns what the steps depend on.
+    pub(crate) fn get(&self) -> &Toward
         ensures { result.now ≡ spec.any_toward self.now }
     {
         match self {
@@ -51,7 +54,10 @@ fn toward_of<'r>(
     steps: &HostSteps<'r, '_>,
     state: State,
 ) -> Result<AnyToward<'r>, AllocError>
-    ensures { IfOk result (λ toward. spec.IsTowardOf steps.now state (spec.any_toward toward)) }
+    ensures toward { IfOk result (λ toward. spec.IsTowardOf steps.now state
+        (spec.any_toward toward)) }
+    ensures strong { IfOk result (λ toward. HasStrong steps.now.least steps.now.blocks.now
+        (spec.any_toward toward)) }
 {
     match steps.known(state) {
         Some(known) => Ok(AnyToward::Known(&known.toward)),
@@ -88,8 +94,8 @@ fn has_like(aims: &[Aimed<'_>], aim: Aim, toward: &Toward) -> bool
     false
 }
 
-/// Returns the found states from an index on as aims of steps that count, of the level. Returns `AllocError` if allocation fails.
-pub(crate) fn aims_of<'r>(
+// Returns the found states from an index on as aims of steps that count, of the level.
+fn aims_of<'r>(
     alloc: Global,
     steps: &HostSteps<'r, '_>,
     sought: Sought,
@@ -149,18 +155,71 @@ fn reached_by(steps: &HostSteps<'_, '_>, aimed: &Aimed<'_>, candidate: &Candidat
     }
 }
 
-// Returns the candidate as it is found by the first of the aims to which it has a step, if it has one.
+/// The found states from an index on, as aims.
+#[derive(Drop)]
+pub(crate) struct Layer<'r> {
+    pub(crate) start: usize,
+    pub(crate) aims: Vec<Aimed<'r>>,
+}
+
+/// Returns the found states from an index on as aims of steps that count, of the level, and notes them. Returns `AllocError` if
+/// allocation fails.
+pub(crate) fn layer_of<'r>(
+    alloc: Global,
+    steps: &HostSteps<'r, '_>,
+    sought: Sought,
+    level: Level,
+    found: &[Found],
+    start: usize,
+    firsts: &mut Firsts,
+) -> Result<Layer<'r>, AllocError>
+    requires level { IsTrue (is_at_least steps.now.least level) }
+    requires deep { AreDeep found.now }
+    ensures aims { IfOk result (λ layer. map (λ a. a.aim) layer.aims.items
+        ≡ aims_at sought level start found.now) }
+    ensures layer { IfOk result (λ layer. IsLayer steps.now firsts.new layer) }
+{
+    let aims = aims_of(alloc, steps, sought, level, found, start)?;
+    firsts.note_aims(start, &aims);
+    Ok(Layer { start, aims })
+}
+
+// Returns the place of an aim of the layer before which the candidate has a step to none.
+fn place_for(
+    steps: &HostSteps<'_, '_>,
+    layer: &Layer<'_>,
+    firsts: &Firsts,
+    candidate: &Candidate,
+) -> usize
+    requires layer { IsLayer steps.now firsts.now layer.now }
+    requires candidate { IsCandidate steps.now candidate.now }
+    ensures { All (λ a. reaches steps.now a.aim candidate.now ≡ false)
+        (take result layer.now.aims.items) }
+{
+    let first = firsts.first_for(steps, layer.start, candidate);
+    if first < layer.start {
+        0
+    } else {
+        first - layer.start
+    }
+}
+
+// Returns the candidate as it is found by the first of the aims to which it has a step, if it has one, where it has none to those before
+// a place.
 fn first_reached(
     steps: &HostSteps<'_, '_>,
     aims: &[Aimed<'_>],
+    from: usize,
     candidate: &Candidate,
 ) -> Option<Found>
     requires aims { All (IsAimed steps.now) aims.now }
     requires like { spec.TellLike aims.now }
     requires candidate { IsCandidate steps.now candidate.now }
+    requires far { All (λ a. reaches steps.now a.aim candidate.now ≡ false) (take from aims.now) }
     ensures { result ≡ first_of steps.now (map (λ a. a.aim) aims.now) candidate.now }
 {
-    for aimed in aims {
+    for place in from..aims.len() {
+        let aimed = &aims[place];
         if let Some(given) = reached_by(steps, aimed, candidate) {
             return Some(Found {
                 state: candidate.state,
@@ -173,27 +232,42 @@ fn first_reached(
     None
 }
 
+// Returns the same for the aims of a layer.
+fn first_found(
+    steps: &HostSteps<'_, '_>,
+    layer: &Layer<'_>,
+    firsts: &Firsts,
+    candidate: &Candidate,
+) -> Option<Found>
+    requires layer { IsLayer steps.now firsts.now layer.now }
+    requires candidate { IsCandidate steps.now candidate.now }
+    ensures { result ≡ first_of steps.now (map (λ a. a.aim) layer.now.aims.items) candidate.now }
+{
+    let from = place_for(steps, layer, firsts, candidate);
+    first_reached(steps, &layer.aims, from, candidate)
+}
+
 /// Moves the candidates with a step to an aim to those that are found, each by the first of these aims, and returns the others. Returns
 /// `AllocError` if allocation fails.
 pub(crate) fn draw<'c>(
     alloc: Global,
     steps: &HostSteps<'_, '_>,
-    aims: &[Aimed<'_>],
+    layer: &Layer<'_>,
+    firsts: &Firsts,
     left: &[&'c Candidate],
     found: &mut Vec<Found>,
 ) -> Result<Vec<&'c Candidate>, AllocError>
-    requires aims { All (IsAimed steps.now) aims.now }
-    requires like { spec.TellLike aims.now }
+    requires layer { IsLayer steps.now firsts.now layer.now }
     requires candidates { All (IsCandidate steps.now) (map (λ c. c.now) left.now) }
     ensures kept { IfOk result (λ kept. map (λ c. c.now) kept.items
-        ≡ filter (λ c. not (is_some (first_of steps.now (map (λ a. a.aim) aims.now) c)))
-        (map (λ c. c.now) left.now)) }
+        ≡ filter (λ c. not (is_some (first_of steps.now
+        (map (λ a. a.aim) layer.now.aims.items) c))) (map (λ c. c.now) left.now)) }
     ensures found { OnOk result (found.new.items ≡ found.old.items ++ filter_map (first_of
-        steps.now (map (λ a. a.aim) aims.now)) (map (λ c. c.now) left.now)) }
+        steps.now (map (λ a. a.aim) layer.now.aims.items)) (map (λ c. c.now) left.now)) }
 {
     let mut kept = Vec::new(alloc);
     for candidate in left {
-        match first_reached(steps, aims, candidate) {
+        match first_found(steps, layer, firsts, candidate) {
             Some(state) => found.push(state)?,
             None => kept.push(*candidate)?,
         }

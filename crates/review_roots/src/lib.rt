@@ -11,6 +11,7 @@ mod blocks;
 mod candidate;
 mod chains;
 mod effect;
+mod firsts;
 mod given;
 mod ground;
 mod groups;

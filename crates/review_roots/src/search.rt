@@ -14,9 +14,10 @@ ghost use Rattle.review_roots.specs.declared.level.Level.{Level as TheLevel};
 
 use crate::Level;
 use crate::candidate::Candidate;
+use crate::firsts::firsts_of;
 use crate::given::{Counted, Given, NOTHING};
 use crate::host::HostSteps;
-use crate::layer::{aims_of, draw};
+use crate::layer::{draw, layer_of};
 use crate::state::State;
 use crate::toward::Toward;
 use std::alloc::{AllocError, Global};
@@ -112,15 +113,16 @@ fn spread<'c>(
         → IsSearch steps.now.directory.now (kept_steps steps.now sought) k level
         (length found.new.items) found.new.items (states_of (map (λ c. c.now) rest.items))) }
 {
+    let mut firsts = firsts_of(alloc, steps)?;
     let mut left = left;
     let mut start = 0;
     while start < found.len() {
         if is_none(&left) {
             return Ok(left);
         }
-        let aims = aims_of(alloc, steps, sought, level, found, start)?;
+        let layer = layer_of(alloc, steps, sought, level, found, start, &mut firsts)?;
         start = found.len();
-        left = draw(alloc, steps, &aims, &left, found)?;
+        left = draw(alloc, steps, &layer, &firsts, &left, found)?;
     }
     Ok(left)
 }

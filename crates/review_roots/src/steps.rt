@@ -10,7 +10,7 @@ ghost use Rattle.review_roots.specs.Body.Candidates as spec;
 ghost use Rattle.review_roots.specs.Body.Found.{IsCandidate};
 ghost use Rattle.review_roots.specs.Body.May as most;
 ghost use Rattle.review_roots.specs.Body.Settled.{given_at, settles_at, settles_of};
-ghost use Rattle.review_roots.specs.Body.Towards.{IsToward};
+ghost use Rattle.review_roots.specs.Body.Towards.{HasStrong, IsToward};
 ghost use Rattle.review_roots.specs.Ranks.{is_at_least};
 ghost use Rattle.review_roots.specs.States.{level_for, person_of, step_given};
 ghost use Rattle.review_roots.specs.declared.candidate.Candidate.{Candidate as TheCandidate};
@@ -67,8 +67,10 @@ impl<'r, 'a> HostSteps<'r, 'a> {
 
     /// Returns what the steps to a state depend on. Returns `AllocError` if allocation fails.
     pub(crate) fn toward(&self, alloc: Global, state: State) -> Result<Toward, AllocError>
-        ensures { IfOk result (λ toward. IsToward self.now.checked.now self.now.directory.now
-            self.now.groups.now self.now.blocks.now state toward) }
+        ensures toward { IfOk result (λ toward. IsToward self.now.checked.now
+            self.now.directory.now self.now.groups.now self.now.blocks.now state toward) }
+        ensures strong { IfOk result (λ toward. HasStrong self.now.least self.now.blocks.now
+            toward) }
     {
         let ground = Ground {
             checked: self.checked,

@@ -1,21 +1,25 @@
 //! Steps of many users to one state: which blocks of rows allow it, found once for all hosts.
-ghost use Rattle.std.specs.Prelude.{◌≡◌, false, IfOk, map, option_copied};
+ghost use Rattle.std.specs.Prelude.{◌≡◌, false, filter, IfOk, map, option_copied};
+ghost use Rattle.std.specs.List.{slice_index_or};
 ghost use Rattle.sudo_verdict.specs.RunasForms.{is_same_user};
-ghost use Rattle.review_roots.specs.Body.Towards.{AreAllowed, IsToward, block_allows};
+ghost use Rattle.review_roots.specs.Body.Towards.{AreAllowed, HasStrong, IsToward, block_allows};
 
 use crate::ground::Ground;
+use crate::raising::push_if;
 use crate::state::{State, group_at};
+use crate::steps::is_at;
 use std::alloc::{AllocError, Global};
 use sudo_match::{Group, Machine, Person};
 use sudo_text::Seq;
 use sudo_verdict::{Asker, allows_runas};
 
-/// A state to which steps are sought, and for each block of rows whether its runas allows the user of the state, with its added
-/// group, to users of another name.
+/// A state to which steps are sought; for each block of rows whether its runas allows the user of the state, with its added
+/// group, to users of another name; and the indices of those that do and raise.
 #[derive(Drop)]
 pub(crate) struct Toward {
     pub(crate) state: State,
     pub(crate) allowed: Vec<bool>,
+    pub(crate) strong: Vec<usize>,
 }
 
 // Returns a user of another name.
@@ -78,19 +82,42 @@ fn allowed(
     allowed_to(alloc, ground, &stranger, &host, target, group)
 }
 
+// Returns the indices of the blocks that raise at which the list is true.
+fn strong_to(
+    alloc: Global,
+    ground: Ground<'_, '_>,
+    allowed: &[bool],
+) -> Result<Vec<usize>, AllocError>
+    ensures { IfOk result (λ strong. strong.items
+        ≡ filter (λ i. slice_index_or allowed.now i false) ground.entry.raising.now) }
+{
+    let mut strong = Vec::new(alloc);
+    for index in ground.raising {
+        push_if(&mut strong, *index, is_at(allowed, *index))?;
+    }
+    Ok(strong)
+}
+
 /// Returns what the steps to a state depend on. Returns `AllocError` if allocation fails.
 pub(crate) fn toward_at(
     alloc: Global,
     ground: Ground<'_, '_>,
     state: State,
 ) -> Result<Toward, AllocError>
-    ensures { IfOk result (λ toward. IsToward ground.entry.checked.now ground.entry.directory.now
-        ground.entry.groups.now ground.entry.blocks.now state toward) }
+    ensures toward { IfOk result (λ toward. IsToward ground.entry.checked.now
+        ground.entry.directory.now ground.entry.groups.now ground.entry.blocks.now state toward) }
+    ensures strong { IfOk result (λ toward. HasStrong ground.entry.least ground.entry.blocks.now
+        toward) }
 {
     let group = group_at(ground.groups, state.added);
     let allowed = match ground.directory.people().get(state.user) {
         Some(target) => allowed(alloc, ground, target, group)?,
         None => Vec::new(alloc),
     };
-    Ok(Toward { state, allowed })
+    let strong = strong_to(alloc, ground, &allowed)?;
+    Ok(Toward {
+        state,
+        allowed,
+        strong,
+    })
 }

@@ -6,9 +6,10 @@ ghost use Rattle.review_roots.specs.Body.Found.{AreDeep, AreTurned};
 
 use crate::Level;
 use crate::candidate::Candidate;
+use crate::firsts::firsts_of;
 use crate::given::Counted;
 use crate::host::HostSteps;
-use crate::layer::{aims_of, draw};
+use crate::layer::{draw, layer_of};
 use crate::search::{Found, Sought, copied, is_left, is_none};
 use std::alloc::{AllocError, Global};
 
@@ -88,7 +89,8 @@ pub(crate) fn turned_of(
         target,
         counted: Counted::Any,
     };
-    let aims = aims_of(alloc, steps, sought, level, unasked, 0)?;
-    draw(alloc, steps, &aims, &asked, &mut turned)?;
+    let mut firsts = firsts_of(alloc, steps)?;
+    let layer = layer_of(alloc, steps, sought, level, unasked, 0, &mut firsts)?;
+    draw(alloc, steps, &layer, &firsts, &asked, &mut turned)?;
     Ok(turned)
 }

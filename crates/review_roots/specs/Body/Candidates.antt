@@ -13,7 +13,7 @@ use Rattle.review_roots.specs.declared.state.State.{State}
 use Rattle.review_roots.specs.Blocks.{Row, block_rows, lists}
 use Rattle.review_roots.specs.States.{person_of}
 use Rattle.review_roots.specs.Body.Raising.{block_raises, indices}
-use Rattle.review_roots.specs.Body.Towards.{IsToward}
+use Rattle.review_roots.specs.Body.Towards.{HasStrong, IsToward}
 
 -- ---- Blocks by their indices
 
@@ -45,6 +45,7 @@ pub record Qualifies (p : Policy) (d : KnownRows) (groups : List Group) (least :
   pub listed : c.listed.items ≡ indices (lists p c.person) bs
   pub strong : c.strong.items ≡ indices (raises_for p least c.person) bs
   pub toward : c.state.added ≡ None → IsToward p d groups bs c.state c.toward
+  pub strong_to : c.state.added ≡ None → HasStrong least bs c.toward
 
 -- no block that raises lists the user of the state
 abbrev pub IsSilent : Policy → KnownRows → List Group → Level → List Block → State → Type 0

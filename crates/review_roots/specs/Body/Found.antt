@@ -23,7 +23,7 @@ use Rattle.review_roots.specs.declared.search.Reach.{Reach}
 use Rattle.review_roots.specs.declared.state.State.{State}
 use Rattle.review_roots.specs.Body.Candidates.{Qualifies, is_heard, states_of}
 use Rattle.review_roots.specs.Body.May.{may_count}
-use Rattle.review_roots.specs.Body.Towards.{IsToward}
+use Rattle.review_roots.specs.Body.Towards.{HasStrong, IsToward}
 use Rattle.review_roots.specs.Order.{IsInOrder, state_cmp}
 use Rattle.review_roots.specs.Sought.{any_steps, free_steps, steps_of, unasked_steps}
 use Rattle.review_roots.specs.Chains.{Steps, Path, HasPath, HasNoPath}
@@ -313,6 +313,7 @@ IsTowardOf h s t = (t.state ≡ s) × IsToward h.checked.now h.directory.now h.g
 pub record IsAimed (h : HostSteps) (a : Aimed) : Type 0 where
   pub level : is_at_least h.least a.aim.level ≡ true
   pub toward : IsTowardOf h a.aim.state (any_toward a.toward)
+  pub strong : HasStrong h.least h.blocks.now (any_toward a.toward)
 
 -- the aim is another one of the same user, whose steps the same blocks allow
 pub record AreLike (one : Aimed) (aim : Aim) (t : Toward) : Type 0 where

@@ -1,5 +1,6 @@
 -- What the steps of users of another name to one state depend on, on all hosts; only proofs of bodies need these definitions.
-use Rattle.std.specs.Prelude.{◌≡◌, Bool, false, List, map, slice_get, Option, Some, option_copied}
+use Rattle.std.specs.Prelude.{◌≡◌, Bool, false, filter, List, map, slice_get, Option, Some, option_copied}
+use Rattle.std.specs.List.{slice_index_or}
 use Rattle.sudo_grammar.specs.declared.policy.Policy.{Policy}
 use Rattle.sudo_match.specs.declared.people.Group.{Group}
 use Rattle.sudo_match.specs.declared.people.Machine.{Machine}
@@ -8,9 +9,11 @@ use Rattle.sudo_match.specs.KnownRows.{KnownRows}
 use Rattle.sudo_verdict.specs.Questions.{question_as}
 use Rattle.sudo_verdict.specs.RunasForms.{is_same_user, runas_allows}
 use Rattle.review_roots.specs.declared.block.Block.{Block}
+use Rattle.review_roots.specs.declared.level.Level.{Level}
 use Rattle.review_roots.specs.declared.state.State.{State}
 use Rattle.review_roots.specs.declared.toward.Toward.{Toward}
 use Rattle.review_roots.specs.States.{group_at}
+use Rattle.review_roots.specs.Body.Raising.{block_raises, indices}
 
 -- the runas of the block allows the target and the group to the user, on the machine
 abbrev pub block_allows : Policy → KnownRows → Person → Machine → Person → Option Group → Block → Bool
@@ -25,3 +28,7 @@ AreAllowed p d bs v g allowed =
 pub record IsToward (p : Policy) (d : KnownRows) (groups : List Group) (bs : List Block) (s : State) (t : Toward) : Type 0 where
   pub state : t.state ≡ s
   pub allowed : (v : Person) → slice_get d.people s.user ≡ Some v → AreAllowed p d bs v (group_at groups s.added) t.allowed.items
+
+-- the indices of the blocks that raise, and allow what is sought
+abbrev pub HasStrong : Level → List Block → Toward → Type 0
+HasStrong least bs t = t.strong.items ≡ filter (λ i. slice_index_or t.allowed.items i false) (indices (block_raises least) bs)

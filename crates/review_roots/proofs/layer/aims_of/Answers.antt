@@ -21,7 +21,7 @@ loop-index-preserved c =
           (there found i _ (omega (arith, c.loop-index-test.true))) refl c.in_ok-push.ensures.items c.loop-index.invariant.aims;
       aimed = subst (All (IsAimed c.args.steps.now)) (sym c.in_ok-push.ensures.items)
           (All-push (IsAimed c.args.steps.now) c.loop-index.aims.items _ c.loop-index.invariant.aimed
-          (record { level = c.requires.level; toward = c.in_ok-toward.ensures }));
+          (record { level = c.requires.level; toward = c.in_ok-toward.ensures.toward; strong = c.in_ok-toward.ensures.strong }));
       level = subst (All (λ a. a.aim.level ≡ l)) (sym c.in_ok-push.ensures.items)
           (All-push (λ a. a.aim.level ≡ l) c.loop-index.aims.items _ c.loop-index.invariant.level refl);
       counted = subst (All (λ a. a.aim.counted ≡ q.counted)) (sym c.in_ok-push.ensures.items)

@@ -7,7 +7,8 @@ use Rattle.review_roots.proofs.layer.draw.Given as goal
 abbrev pub invariant-loop-candidate : goal.invariant-loop-candidate
 invariant-loop-candidate l = record {
   kept : map (λ c. c.now) l.kept.items
-      ≡ filter (λ c. not (is_some (first_of l.steps (map (λ a. a.aim) l.aims) c))) (map (λ c. c.now) (take l.candidate-index l.left));
+      ≡ filter (λ c. not (is_some (first_of l.steps (map (λ a. a.aim) l.layer.aims.items) c)))
+      (map (λ c. c.now) (take l.candidate-index l.left));
   found : l.found.items ≡ l.initial.found.items
-      ++ filter_map (first_of l.steps (map (λ a. a.aim) l.aims)) (map (λ c. c.now) (take l.candidate-index l.left));
+      ++ filter_map (first_of l.steps (map (λ a. a.aim) l.layer.aims.items)) (map (λ c. c.now) (take l.candidate-index l.left));
 }

@@ -6,7 +6,7 @@ use Rattle.review_roots.specs.declared.candidate.Candidate.{Candidate}
 use Rattle.review_roots.specs.declared.layer.Aimed.{Aimed}
 use Rattle.review_roots.specs.declared.search.Aim.{Aim}
 use Rattle.review_roots.specs.Body.Candidates.{states_of}
-use Rattle.review_roots.specs.Body.Found.{IsCandidate, IsSearch, TellLike, aims_at, first_of, kept_steps}
+use Rattle.review_roots.specs.Body.Found.{IsCandidate, IsSearch, aims_at, first_of, kept_steps}
 use Rattle.review_roots.proofs.LayerLemmas.{spread-candidates, spread-deep, spread-given, spread-length, spread-search}
 use Rattle.review_roots.proofs.SearchLemmas.{search-end}
 use Rattle.review_roots.proofs.search.spread.Goals as goal
@@ -20,12 +20,11 @@ loop-start-preserved c =
     let n = c.loop-start.start in
     let found = c.loop-start.found.items in
     let new = c.draw.new.found.items in
-    let cs : List Candidate = map (λ c. c.now) c.deref-in-loop-start-3.result.now in
+    let cs : List Candidate = map (λ c. c.now) c.deref-in-loop-start-2.result.now in
     let kept : List Candidate = map (λ c. c.now) c.in_ok-left.left.items in
-    let same = sym c.deref-in-loop-start-3.ensures.value in
-    let aims : map (λ (a : Aimed). a.aim) c.deref-in-loop-start-2.result.now ≡ aims_at q l n found =
-    ap (λ (xs : List Aimed). map (λ (a : Aimed). a.aim) xs) c.deref-in-loop-start-2.ensures.value
-    ∙ c.in_ok-aims.ensures.aims ∙ ap (aims_at q l n) c.deref-in-loop-start.ensures.value in
+    let same = sym c.deref-in-loop-start-2.ensures.value in
+    let aims : map (λ (a : Aimed). a.aim) c.in_ok-layer.layer.aims.items ≡ aims_at q l n found =
+    c.in_ok-layer.ensures.aims ∙ ap (aims_at q l n) c.deref-in-loop-start.ensures.value in
     let finds : new ≡ found ++ filter_map (first_of h (aims_at q l n found)) cs =
     c.in_ok-left.ensures.found ∙ ap (λ (aims : List Aim). found ++ filter_map (first_of h aims) cs) aims in
     let keeps : kept ≡ filter (λ k. not (is_some (first_of h (aims_at q l n found) k))) cs =
@@ -51,18 +50,17 @@ loop-start-smaller c =
     let n = c.loop-start.start in
     let found = c.loop-start.found.items in
     let new = c.draw.new.found.items in
-    let cs : List Candidate = map (λ c. c.now) c.deref-in-loop-start-3.result.now in
+    let cs : List Candidate = map (λ c. c.now) c.deref-in-loop-start-2.result.now in
     let kept : List Candidate = map (λ c. c.now) c.in_ok-left.left.items in
     let less : n < length found = omega (arith, c.loop-start-test.true, c.len.ensures) in
-    let aims : map (λ (a : Aimed). a.aim) c.deref-in-loop-start-2.result.now ≡ aims_at q l n found =
-    ap (λ (xs : List Aimed). map (λ (a : Aimed). a.aim) xs) c.deref-in-loop-start-2.ensures.value
-    ∙ c.in_ok-aims.ensures.aims ∙ ap (aims_at q l n) c.deref-in-loop-start.ensures.value in
+    let aims : map (λ (a : Aimed). a.aim) c.in_ok-layer.layer.aims.items ≡ aims_at q l n found =
+    c.in_ok-layer.ensures.aims ∙ ap (aims_at q l n) c.deref-in-loop-start.ensures.value in
     let sum = spread-length h q l n found new cs kept
     (c.in_ok-left.ensures.found ∙ ap (λ (aims : List Aim). found ++ filter_map (first_of h aims) cs) aims)
     (c.in_ok-left.ensures.kept ∙ ap (λ (aims : List Aim). filter (λ k. not (is_some (first_of h aims k))) cs) aims) in
     let k : length kept ≡ length c.in_ok-left.left.items = length-map c.in_ok-left.left.items (λ c. c.now) in
-    let m : length cs ≡ length c.deref-in-loop-start-3.result.now = length-map c.deref-in-loop-start-3.result.now (λ c. c.now) in
-    let o : length c.deref-in-loop-start-3.result.now ≡ length c.loop-start.left.items = ap length c.deref-in-loop-start-3.ensures.value in
+    let m : length cs ≡ length c.deref-in-loop-start-2.result.now = length-map c.deref-in-loop-start-2.result.now (λ c. c.now) in
+    let o : length c.deref-in-loop-start-2.result.now ≡ length c.loop-start.left.items = ap length c.deref-in-loop-start-2.ensures.value in
     omega (arith, less, sum, k, m, o, c.len-start.ensures)
 
 pub returns-clause-search : goal.returns-clause-search
@@ -79,6 +77,3 @@ returns-then-is_none-clause-search c = λ k start.
     (states_of (map (λ c. c.now) c.loop-start.left.items)) (c.loop-start.invariant.search k start)
     (inr (ap (λ (xs : List (Bor Candidate)). states_of (map (λ c. c.now) xs))
     (sym c.deref.ensures.value ∙ c.is_none.ensures c.if-is_none.true)))
-
-pub draw-requires-clause-like : goal.draw-requires-clause-like
-draw-requires-clause-like c = subst TellLike (sym c.deref-in-loop-start-2.ensures.value) c.in_ok-aims.ensures.like
