@@ -32,6 +32,7 @@ pub mod CandidateLemmas
 pub mod MemberLemmas
 pub mod UnnamedLemmas
 pub mod AlikeLemmas
+pub mod SoleLemmas
 pub mod UserLemmas
 pub mod KeptLemmas
 pub mod NamingLemmas

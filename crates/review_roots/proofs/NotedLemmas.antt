@@ -1,15 +1,14 @@
 -- What is noted of the aims of a layer; and which of them a candidate does not reach, by that.
 use Rattle.std.proofs.Common.{◌≡◌, ◌≢◌, ◌<◌, ◌≤◌, ◌+◌, ◌∙◌, ◌⊎◌, ◌==◌, ◌&&◌, ◌||◌, ℕ, zero, suc, Bool, true, false, cond, List, [], ◌∷◌}
 use Rattle.std.proofs.Common.{ap, arith, drop, get_or, inl, inr, length, map, refl, subst, sym, take, Option, Some, None}
-use Rattle.std.specs.Prelude.{All, filter, fold, nat_lt, set, slice_get}
-use Rattle.std.specs.List.{Contains, list_any, slice_index_or}
+use Rattle.std.specs.Prelude.{All, fold, nat_lt, set, slice_get}
+use Rattle.std.specs.List.{Contains, slice_index_or}
 use Rattle.std.proofs.lemmas.Bool.Decides.{nat_tests}
 use Rattle.std.proofs.lemmas.List.{drop_all}
 use Rattle.std.proofs.lemmas.List.Elements.{All-contains, All-head, All-tail}
 use Rattle.std.proofs.lemmas.List.Folds.{list_any_none}
 use Rattle.std.proofs.lemmas.Option.{slice_get_within}
 use Rattle.sudo_policy.proofs.StateLemmas.{get_set_cases, get_set_same}
-use Rattle.review_roots.specs.declared.block.Block.{Block}
 use Rattle.review_roots.specs.declared.candidate.Candidate.{Candidate}
 use Rattle.review_roots.specs.declared.firsts.Firsts.{Firsts}
 use Rattle.review_roots.specs.declared.host.HostSteps.{HostSteps}
@@ -23,7 +22,7 @@ use Rattle.review_roots.specs.declared.toward.Toward.{Toward}
 use Rattle.review_roots.specs.Blocks.{lists}
 use Rattle.review_roots.specs.Body.Candidates.{both_at}
 use Rattle.review_roots.specs.Body.Firsts.{AreNoted, IsBounded, IsNoted, StandInOrder, free_if, is_free, with_blocks, with_noted, with_user}
-use Rattle.review_roots.specs.Body.Found.{IsAimed, IsCandidate, aim_of, aims_at, any_toward, first_of, found_by, reaches}
+use Rattle.review_roots.specs.Body.Found.{IsAimed, IsCandidate, aims_at, any_toward, first_of, found_by, reaches}
 use Rattle.review_roots.specs.Body.Raising.{block_raises, indices, passes_at}
 use Rattle.review_roots.specs.Ranks.{is_at_least}
 use Rattle.review_roots.specs.States.{level_for, step_given}

@@ -2,6 +2,7 @@
 pub mod Heads
 pub mod Effects
 pub mod Raising
+pub mod Alike
 pub mod Rows
 pub mod Candidates
 pub mod Towards

@@ -1,17 +1,18 @@
 //! Which blocks list a user without an added group, and, by that, which list it with one.
-ghost use Rattle.std.specs.Prelude.{◌≡◌, IfOk, OnOk, Some, false, if◌then◌else◌, map, slice_get, ℕ};
+ghost use Rattle.std.specs.Prelude.{◌≡◌, ◌<◌, IfOk, OnOk, Some, false, if◌then◌else◌, length, map, slice_get, take, ℕ};
 ghost use Rattle.std.specs.List.{slice_index_or};
 ghost use Rattle.review_roots.specs.Blocks.{lists};
 ghost use Rattle.review_roots.specs.Body.Naming.{IsBase};
 ghost use Rattle.review_roots.specs.Body.Raising.{indices, passes_at};
 ghost use Rattle.review_roots.specs.declared.block.Block.{Block as TheBlock};
 
+use crate::alike::earlier;
 use crate::ground::Ground;
+use crate::listing::lists_person;
 use crate::raising::push_if;
 use crate::steps::is_at;
 use std::alloc::{AllocError, Global};
 use sudo_match::Person;
-use sudo_verdict::lists_user;
 
 /// A user without an added group: for each block, whether its user list allows it, if it is known.
 #[derive(Drop)]
@@ -26,13 +27,28 @@ pub(crate) fn lists_at(ground: Ground<'_, '_>, index: usize, person: &Person) ->
         ground.entry.blocks.now index }
 {
     match ground.blocks.get(index) {
-        Some(block) => lists_user(ground.checked, block.users, person),
+        Some(block) => lists_person(ground.checked, block.users, person),
         None => false,
     }
 }
 
-// Returns for each block whether its user list allows the user.
-fn passes_of(
+// Whether the user list of the block at an index allows the user, where that is known of those before it: looked up, unless one of them
+// has the same list.
+fn passes_behind(ground: Ground<'_, '_>, passes: &[bool], index: usize, person: &Person) -> bool
+    requires inside { index < length ground.blocks.now }
+    requires known { passes.now
+        ≡ map (lists ground.checked.now person.now) (take index ground.blocks.now) }
+    ensures { result ≡ passes_at (lists ground.entry.checked.now person.now)
+        ground.entry.blocks.now index }
+{
+    match earlier(ground.alike, index) {
+        Some(first) => is_at(passes, first),
+        None => lists_at(ground, index, person),
+    }
+}
+
+/// Returns for each block whether its user list allows the user. Returns `AllocError` if allocation fails.
+pub(crate) fn passes_of(
     alloc: Global,
     ground: Ground<'_, '_>,
     person: &Person,
@@ -41,8 +57,9 @@ fn passes_of(
         ≡ map (lists ground.entry.checked.now person.now) ground.entry.blocks.now) }
 {
     let mut passes = Vec::new(alloc);
-    for block in ground.blocks {
-        passes.push(lists_user(ground.checked, block.users, person))?;
+    for index in 0..ground.blocks.len() {
+        let stands = passes_behind(ground, &passes, index, person);
+        passes.push(stands)?;
     }
     Ok(passes)
 }

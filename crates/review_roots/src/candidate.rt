@@ -1,5 +1,5 @@
 //! Users that may take steps, with what is known of each on all hosts.
-ghost use Rattle.std.specs.Prelude.{◌≡◌, [], IfOk, OnOk, Some, None, true};
+ghost use Rattle.std.specs.Prelude.{◌≡◌, [], IfOk, OnOk, Some, None, bytes_eq, true};
 ghost use Rattle.sudo_verdict.specs.RunasForms as form;
 ghost use Rattle.review_roots.specs.Blocks.{lists};
 ghost use Rattle.review_roots.specs.Body.Candidates as spec;
@@ -10,15 +10,15 @@ ghost use Rattle.review_roots.specs.States.{person_of};
 ghost use Rattle.review_roots.specs.declared.candidate.Candidate.{Candidate as TheCandidate};
 
 use crate::Level;
-use crate::base::{Base, listed_beside, lists_at, set_base};
+use crate::base::{Base, listed_beside, lists_at, passes_of, set_base};
 use crate::block::Block;
 use crate::ground::Ground;
 use crate::raising::push_if;
 use crate::state::{State, group_at, with_added};
+use crate::steps::is_at;
 use crate::toward::{Toward, toward_at};
 use std::alloc::{AllocError, Global};
 use sudo_match::Person;
-use sudo_verdict::lists_user;
 
 /// A user with its added group, if any: the indices of the blocks whose user list allows it, and of those of them that raise;
 /// and what steps to it depend on, if it has no added group.
@@ -41,12 +41,18 @@ fn may_be_same(one: &[u8], other: &[u8]) -> bool
     }
 }
 
+/// Whether two names are the same.
+pub(crate) fn is_same_name(one: &[u8], other: &[u8]) -> bool
+    ensures { result ≡ bytes_eq one.now other.now }
+{
+    may_be_same(one, other) && one == other
+}
+
 /// Whether two users have one name.
 pub(crate) fn is_same_user(one: &Person, other: &Person) -> bool
     ensures { result ≡ form.is_same_user one.now other.now }
 {
-    let (one, other) = (one.name.as_slice(), other.name.as_slice());
-    may_be_same(one, other) && one == other
+    is_same_name(one.name.as_slice(), other.name.as_slice())
 }
 
 // Whether no index is listed.
@@ -68,10 +74,10 @@ fn listed_of(
     ensures { IfOk result (λ listed. listed.items
         ≡ indices (lists ground.entry.checked.now person.now) ground.entry.blocks.now) }
 {
+    let passes = passes_of(alloc, ground, person)?;
     let mut listed = Vec::new(alloc);
     for index in 0..ground.blocks.len() {
-        let passes = lists_user(ground.checked, ground.blocks[index].users, person);
-        push_if(&mut listed, index, passes)?;
+        push_if(&mut listed, index, is_at(&passes, index))?;
     }
     Ok(listed)
 }

@@ -2,6 +2,7 @@
 ghost use Rattle.std.specs.Prelude.{◌≡◌, IsTrue};
 ghost use Rattle.std.specs.List.{list_all};
 ghost use Rattle.review_roots.specs.Blocks.{block_resolves};
+ghost use Rattle.review_roots.specs.Body.Alike.{AreFirsts, user_list};
 ghost use Rattle.review_roots.specs.Body.Raising.{block_raises, indices};
 
 use crate::Level;
@@ -20,6 +21,9 @@ pub(crate) struct Ground<'g, 'a> {
     pub(crate) blocks: &'g [Block<'a>],
     // The indices of the blocks that raise.
     pub(crate) raising: &'g [usize],
+    // For some blocks, the index of an earlier one with the same user list.
+    pub(crate) alike: &'g [usize],
     ghost raised: { raising.now ≡ indices (block_raises least) blocks.now },
+    ghost likened: { AreFirsts user_list blocks.now alike.now },
     ghost resolve: { IsTrue (list_all (block_resolves checked.now) blocks.now) },
 }

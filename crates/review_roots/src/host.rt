@@ -1,22 +1,25 @@
 //! A policy on one host.
-ghost use Rattle.std.specs.Prelude.{◌≡◌, IfOk, IsTrue, None, map};
+ghost use Rattle.std.specs.Prelude.{◌≡◌, ◌<◌, IfOk, IsTrue, None, length, map, take};
 ghost use Rattle.std.specs.List.{list_all};
 ghost use Rattle.sudo_match.specs.KnownRows.{directory_fault};
 ghost use Rattle.review_roots.specs.Blocks.{AreBlocks, block_resolves, is_for};
+ghost use Rattle.review_roots.specs.Body.Alike.{AreFirsts, host_list};
 ghost use Rattle.review_roots.specs.Body.Candidates.{AreCandidates, has_state, states_of};
 ghost use Rattle.review_roots.specs.Order.{IsInOrder};
 ghost use Rattle.review_roots.specs.Body.Kept.{kept_states};
-ghost use Rattle.review_roots.specs.Body.Raising.{block_raises, indices};
+ghost use Rattle.review_roots.specs.Body.Raising.{block_raises, indices, passes_at};
 ghost use Rattle.review_roots.specs.Body.Unnamed.{AreIds};
 ghost use Rattle.review_roots.specs.Ranks.{is_at_least};
 ghost use Rattle.review_roots.specs.declared.level.Level.TheVariants as level;
 ghost use Rattle.review_roots.specs.declared.state.State.{State as TheState};
 
 use crate::Level;
+use crate::alike::earlier;
 use crate::block::Block;
 use crate::candidate::Candidate;
 use crate::rules::Rules;
 use crate::state::State;
+use crate::steps::is_at;
 use std::alloc::{AllocError, Global};
 use sudo_match::{Directory, Group, Machine};
 use sudo_policy::Checked;
@@ -60,19 +63,44 @@ pub struct HostSteps<'r, 'a> {
     ghost faultless: { directory_fault directory.now.people directory.now.machines ≡ None },
 }
 
+// Whether there is a block at the index, and it is for the host, where that is known of those before it: looked up, unless one of them has
+// the same host list.
+fn is_for_behind(
+    checked: &Checked,
+    blocks: &[Block<'_>],
+    alike: &[usize],
+    on: &[bool],
+    index: usize,
+    host: &Machine,
+) -> bool
+    requires resolve { IsTrue (list_all (block_resolves checked.now) blocks.now) }
+    requires alike { AreFirsts host_list blocks.now alike.now }
+    requires inside { index < length blocks.now }
+    requires known { on.now ≡ map (is_for checked.now host.now) (take index blocks.now) }
+    ensures { result ≡ passes_at (is_for checked.now host.now) blocks.now index }
+{
+    match earlier(alike, index) {
+        Some(first) => is_at(on, first),
+        None => lists_host(checked, blocks[index].hosts, host),
+    }
+}
+
 // Returns for each block whether it is for the host.
 fn on_host(
     alloc: Global,
     checked: &Checked,
     blocks: &[Block<'_>],
+    alike: &[usize],
     host: &Machine,
 ) -> Result<Vec<bool>, AllocError>
-    requires { IsTrue (list_all (block_resolves checked.now) blocks.now) }
+    requires resolve { IsTrue (list_all (block_resolves checked.now) blocks.now) }
+    requires alike { AreFirsts host_list blocks.now alike.now }
     ensures { IfOk result (λ on. on.items ≡ map (is_for checked.now host.now) blocks.now) }
 {
     let mut on = Vec::new(alloc);
-    for block in blocks {
-        on.push(lists_host(checked, block.hosts, host))?;
+    for index in 0..blocks.len() {
+        let stands = is_for_behind(checked, blocks, alike, &on, index, host);
+        on.push(stands)?;
     }
     Ok(on)
 }
@@ -91,7 +119,7 @@ impl<'r, 'a> HostSteps<'r, 'a> {
         ensures least { IfOk result (λ steps. steps.least ≡ rules.now.least) }
     {
         let blocks = rules.blocks.as_slice();
-        let on = on_host(alloc, rules.checked, blocks, host)?;
+        let on = on_host(alloc, rules.checked, blocks, &rules.alike, host)?;
         Ok(HostSteps {
             checked: rules.checked,
             directory: rules.directory,

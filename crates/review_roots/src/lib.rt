@@ -5,6 +5,7 @@
 #![tactic(auto)]
 
 mod addable;
+mod alike;
 mod base;
 mod block;
 mod blocks;
@@ -20,6 +21,7 @@ mod kept;
 mod laws;
 mod layer;
 mod level;
+mod listing;
 mod may;
 mod naming;
 mod order;

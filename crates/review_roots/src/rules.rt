@@ -3,6 +3,7 @@ ghost use Rattle.std.specs.Prelude.{◌≡◌, ◌++◌, ◌∷◌, [], List, If
 ghost use Rattle.std.specs.List.{list_all};
 ghost use Rattle.sudo_match.specs.KnownRows.{KnownRows, directory_fault};
 ghost use Rattle.review_roots.specs.Blocks.{AreBlocks, block_resolves};
+ghost use Rattle.review_roots.specs.Body.Alike.{AreFirsts, host_list};
 ghost use Rattle.review_roots.specs.Body.Candidates.{AreCandidates, has_state, states_of};
 ghost use Rattle.review_roots.specs.Order.{IsInOrder};
 ghost use Rattle.review_roots.specs.Body.Kept.{kept_states};
@@ -14,6 +15,7 @@ ghost use Rattle.review_roots.specs.declared.level.Level.TheVariants as level;
 ghost use Rattle.review_roots.specs.declared.state.State.{State as TheState};
 
 use crate::Level;
+use crate::alike::{alike_hosts, alike_users};
 use crate::base::{Base, base_of};
 use crate::block::Block;
 use crate::blocks::blocks_of;
@@ -45,6 +47,8 @@ pub struct Rules<'a> {
     pub(crate) blocks: Vec<Block<'a>>,
     // The indices of the blocks that raise.
     pub(crate) raising: Vec<usize>,
+    // For some blocks, the index of an earlier one with the same host list.
+    pub(crate) alike: Vec<usize>,
     // The IDs of the groups that a list names.
     pub(crate) ids: Vec<u32>,
     // The states that stand for all, in their order.
@@ -55,6 +59,7 @@ pub struct Rules<'a> {
     ghost listed: { IsTrue (is_at_least level.Listed least) },
     ghost tied: { AreBlocks checked.now blocks.items },
     ghost raised: { raising.items ≡ indices (block_raises least) blocks.items },
+    ghost likened: { AreFirsts host_list blocks.items alike.items },
     ghost resolve: { IsTrue (list_all (block_resolves checked.now) blocks.items) },
     ghost covered: { AreCandidates checked.now directory.now groups.now least blocks.items
         states.items candidates.items },
@@ -151,6 +156,8 @@ impl<'a> Rules<'a> {
     {
         let blocks = blocks_of(alloc, checked)?;
         let raising = raising_of(alloc, least, &blocks)?;
+        let users = alike_users(alloc, &blocks)?;
+        let alike = alike_hosts(alloc, &blocks)?;
         let ground = Ground {
             checked,
             directory,
@@ -158,6 +165,7 @@ impl<'a> Rules<'a> {
             least,
             blocks: blocks.as_slice(),
             raising: raising.as_slice(),
+            alike: users.as_slice(),
         };
         directory.has_no_fault();
         let ids = named_ids(alloc, checked, &blocks, groups)?;
@@ -171,6 +179,7 @@ impl<'a> Rules<'a> {
             least,
             blocks,
             raising,
+            alike,
             ids,
             states,
             candidates,

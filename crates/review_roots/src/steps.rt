@@ -79,6 +79,7 @@ impl<'r, 'a> HostSteps<'r, 'a> {
             least: self.least,
             blocks: self.blocks,
             raising: self.raising,
+            alike: &[],
         };
         toward_at(alloc, ground, state)
     }
@@ -97,6 +98,7 @@ impl<'r, 'a> HostSteps<'r, 'a> {
             least: self.least,
             blocks: self.blocks,
             raising: self.raising,
+            alike: &[],
         };
         candidate_at(alloc, ground, state)
     }

@@ -1,16 +1,9 @@
-use Rattle.std.proofs.Common.{◌&&◌, option_copied}
-use Rattle.std.proofs.lemmas.Bool.{and_parts}
-use Rattle.sudo_grammar.specs.declared.kind.Kind.TheVariants as kind
-use Rattle.sudo_policy.specs.Resolving.{resolves, runas_resolves}
-use Rattle.review_roots.specs.Blocks.{block_resolves}
-use Rattle.review_roots.proofs.ListSteps.{all-there}
+use Rattle.review_roots.specs.Blocks.{is_for}
+use Rattle.review_roots.proofs.SoleLemmas.{answers-more}
 use Rattle.review_roots.proofs.host.on_host.Goals as goal
 
-pub lists_host-requires : goal.lists_host-requires
-lists_host-requires c =
-    let p = c.args.checked.now in
-    let b = c.block-item.result in
-    (and_parts (resolves kind.User p b.users.now) (resolves kind.Host p b.hosts.now)
-    (and_parts (resolves kind.User p b.users.now && resolves kind.Host p b.hosts.now) (runas_resolves p (option_copied b.runas))
-    (all-there (block_resolves p) c.args.blocks.now c.loop-block.block-index b c.loop-block-test.true c.block-item.is
-    c.requires)).0).1
+pub loop-index-preserved : goal.loop-index-preserved
+loop-index-preserved c =
+    answers-more (is_for c.args.checked.now c.args.host.now) c.args.blocks.now c.loop-index.index c.is_for_behind-stands.result
+    c.loop-index.on.items c.push.new.self.items c.loop-index-test.true c.is_for_behind-stands.ensures c.loop-index.invariant
+    c.in_ok-push.ensures.items

@@ -1,5 +1,6 @@
 use Rattle.std.proofs.Common.{◌∙◌, List, ap, sym, subst}
 use Rattle.review_roots.specs.declared.state.State.{State}
+use Rattle.review_roots.specs.Body.Alike.{AreFirsts, host_list}
 use Rattle.review_roots.specs.Body.Candidates.{has_state}
 use Rattle.review_roots.specs.Body.Kept.{kept_states}
 use Rattle.review_roots.specs.Body.Raising.{block_raises, indices}
@@ -14,12 +15,16 @@ pub invariant_of-result-clause-kept : goal.invariant_of-result-clause-kept
 invariant_of-result-clause-kept c = λ s.
     c.in_ok-sort_states.ensures.same s
     ∙ ap (λ (ss : List State). has_state ss s)
-    (c.in_ok-states.ensures ∙ ap (kept_states c.args.directory.now c.args.groups.now) c.deref-3.ensures.value)
+    (c.in_ok-states.ensures ∙ ap (kept_states c.args.directory.now c.args.groups.now) c.deref-5.ensures.value)
 
 pub invariant_of-result-clause-candidates_order : goal.invariant_of-result-clause-candidates_order
 invariant_of-result-clause-candidates_order c =
     let d = c.args.directory.now in
-    c.in_ok-candidates.ensures.order d (subst (IsInOrder d) (sym c.deref-4.ensures.value) c.in_ok-sort_states.ensures.sorted)
+    c.in_ok-candidates.ensures.order d (subst (IsInOrder d) (sym c.deref-6.ensures.value) c.in_ok-sort_states.ensures.sorted)
 
 pub invariant_of-result-clause-unnamed : goal.invariant_of-result-clause-unnamed
 invariant_of-result-clause-unnamed c = c.in_ok-ids.ensures
+
+pub invariant_of-result-clause-likened : goal.invariant_of-result-clause-likened
+invariant_of-result-clause-likened c =
+    subst (λ bs. AreFirsts host_list bs c.in_ok-alike.alike.items) c.deref-3.ensures.value c.in_ok-alike.ensures
