@@ -158,7 +158,7 @@ rulings-say-same ds es e met c x =
     said-among met ds c x ∙ ap (answer_of (fits_where met c x)) e ∙ sym (said-among met es c x)
 
 -- commands that are written alike, behind others that are, are the same
-lined-same : (k a : Lined) → same_lined k a ≡ true → k ≡ a
+pub lined-same : (k a : Lined) → same_lined k a ≡ true → k ≡ a
 lined-same k a e =
     let both = and_parts (same_command k.atom a.atom) (same_commands k.before a.before) e in
     ap (λ (atom : Atom). let l : Lined = record { before = k.before; atom = atom } in l) (command-same k.atom a.atom both.0)

@@ -197,7 +197,7 @@ apart_sound s r (One x ∷ p) (One y ∷ q) (b ∷ t) e h =
     go (inl now) held onward = and_left (set_holds r y b) (fits q t r) (sets_sound s r x y b now held)
     go (inr then) held onward = and_right (set_holds r y b) (fits q t r) (onward then)
 
-text_is : (s : Slash) (p : List Part) (u t : List ℕ) → text_of p ≡ Some u → fits p t s ≡ true → t ≡ u
+pub text_is : (s : Slash) (p : List Part) (u t : List ℕ) → text_of p ≡ Some u → fits p t s ≡ true → t ≡ u
 unfolding fits
 text_is s [] u [] e h = let same : [] ≡ u = cc in same
 text_is s [] u (b ∷ t) e h = cc

@@ -15,6 +15,9 @@ pub mod DifferenceLemmas
 pub mod RowLemmas
 pub mod LineLemmas
 pub mod UnnotedLemmas
+pub mod CaseSteps
+pub mod CaseLemmas
+pub mod NoteLemmas
 pub mod TextLemmas
 pub mod UnchangedLemmas
 pub mod ClassLemmas

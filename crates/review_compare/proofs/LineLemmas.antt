@@ -25,7 +25,7 @@ use Rattle.review_compare.proofs.RulingLemmas.{drop-at}
 
 -- ---- Steps of a walk
 
-same-line : (a b : Place) → same_place a b ≡ true → a ≡ b
+pub same-line : (a b : Place) → same_place a b ≡ true → a ≡ b
 same-line a b e =
     let both = and_parts (a.file == b.file) (a.line == b.line) e in
     ap (λ n. let p : Place = record { file = n; line = a.line } in p) (eqb-true a.file b.file both.0)

@@ -19,7 +19,7 @@ use Rattle.review_compare.proofs.LineLemmas.{unnoted-lined}
 abbrev alone : Grant → Decider
 alone g = (wide_of g).decider
 
-no-notes : (gs : List Grant) → has_note (map wide_of gs) ≡ list_any is_note_grant gs
+pub no-notes : (gs : List Grant) → has_note (map wide_of gs) ≡ list_any is_note_grant gs
 no-notes [] = refl
 no-notes (g ∷ gs) = ap (λ b. is_note_grant g || b) (no-notes gs)
 

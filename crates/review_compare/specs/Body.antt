@@ -1,5 +1,7 @@
 pub mod Characters
 pub mod Shown
+pub mod Commands
+pub mod Asked
 pub mod Heads
 pub mod Chosen
 pub mod Merged

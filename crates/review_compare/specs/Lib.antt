@@ -6,6 +6,7 @@ pub mod Table
 pub mod Body
 pub mod Lines
 pub mod Cells
+pub mod Cases
 pub mod Unsettled
 pub mod Names
 pub mod Witnesses

@@ -1,5 +1,6 @@
 //! The laws of rulings. The functions have no effect: each contract is a law.
 ghost use Rattle.review_compare.specs.Agreement.{Agreement};
+ghost use Rattle.review_compare.specs.Cases.{CasesAreSaid, SameCasesSaySame, UnnotedCasesHold};
 ghost use Rattle.review_compare.specs.Cells.{AgreeingRowsSaySame, NothingDepends, RequestsAnsweredSame, RowsDecide};
 ghost use Rattle.review_compare.specs.Compared.{PoliciesAgree};
 ghost use Rattle.review_compare.specs.Covering.{AgreementOnCommands, CoversIsSound, DisjointIsSound};
@@ -49,4 +50,12 @@ pub fn same_cells_answer_alike()
 /// whichever noted conditions hold.
 pub fn agreeing_rows_say_same()
     ensures { AgreeingRowsSaySame }
+{}
+
+/// The cases of a request are what a policy says to it, whichever noted conditions hold; so policies with the same cases say the same
+/// whichever hold. Where no line has a note that bears on the request, the verdict is what is said whichever hold.
+pub fn cases_say_what_policies_say()
+    ensures said { CasesAreSaid }
+    ensures same { SameCasesSaySame }
+    ensures unnoted { UnnotedCasesHold }
 {}

@@ -10,6 +10,7 @@ mod asks;
 mod block;
 mod brief;
 mod candidates;
+mod cases;
 mod cell;
 mod changed;
 mod characters;
@@ -24,10 +25,12 @@ mod host_marks;
 mod laws;
 mod lines;
 mod near;
+mod noted_policy;
 mod overlap;
 mod pair;
 mod probes;
 mod reach;
+mod request_cases;
 mod row;
 mod ruling;
 mod same_runas;
@@ -46,9 +49,11 @@ pub use cell::{Ask, AskedGroups, Cell};
 pub use compared::{Compared, Decider};
 pub use differences::compared_policies;
 pub use laws::{
-    agreeing_rows_say_same, commands_agree, policies_agree, rows_decide, rulings_agree,
-    same_cells_answer_alike, simple_tests_are_sound, tests_are_sound,
+    agreeing_rows_say_same, cases_say_what_policies_say, commands_agree, policies_agree,
+    rows_decide, rulings_agree, same_cells_answer_alike, simple_tests_are_sound, tests_are_sound,
 };
+pub use noted_policy::{LineCommands, NotedPolicy};
+pub use request_cases::{Dependence, compared_request};
 pub use row::Row;
 pub use text::differences_text;
 pub use witness::Witness;

@@ -203,8 +203,8 @@ fn block_has_note(block: &Block<'_>) -> bool
     false
 }
 
-// Whether one of the rows stands for a note.
-fn has_note(blocks: &[Block<'_>]) -> bool
+/// Whether one of the rows stands for a note.
+pub(crate) fn has_note(blocks: &[Block<'_>]) -> bool
     ensures { result ≡ body.has_note (flat_map block_wides blocks.now) }
 {
     for block in blocks {

@@ -37,8 +37,8 @@ pub(crate) fn is_unnoted(before: &[Atom]) -> bool
     }
 }
 
-// Whether the commands of both rows are written alike, and so is what stands before them.
-fn is_same_lined(row: &Ruled<'_>, other: &Ruled<'_>) -> bool
+/// Whether the commands of both rows are written alike, and so is what stands before them.
+pub(crate) fn is_same_lined(row: &Ruled<'_>, other: &Ruled<'_>) -> bool
     ensures { result ≡ cells.same_lined (cells.lined_of (body.shown row.now))
         (cells.lined_of (body.shown other.now)) }
 {

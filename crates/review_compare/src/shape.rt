@@ -1,6 +1,7 @@
 //! Commands of a policy beside others: whether one fits whatever the other fits, and whether nothing fits both.
-ghost use Rattle.std.specs.Prelude.{◌≡◌, ◌&&◌, ◌||◌, [], map, option_map, Some, IfOk, IsTrue};
+ghost use Rattle.std.specs.Prelude.{◌≡◌, ◌&&◌, ◌||◌, [], false, IfOk, IsTrue, List, map, option_map, Some, ℕ};
 ghost use Rattle.sudo_match.specs.Matching as matching;
+ghost use Rattle.sudo_match.specs.Matching.{command_fits};
 ghost use Rattle.sudo_match.specs.Pattern as pattern;
 ghost use Rattle.review_compare.specs.Covering as covering;
 ghost use Rattle.review_compare.specs.Simply as simply;
@@ -11,7 +12,7 @@ use crate::characters::{
 };
 use std::alloc::{AllocError, Global};
 use sudo_grammar::Atom;
-use sudo_match::{Pattern, Slash};
+use sudo_match::{Pattern, Slash, command_matches};
 use sudo_text::{Ch, Seq};
 
 /// A command of a policy, with what the tests of pairs need of it.
@@ -338,6 +339,24 @@ impl Shape {
         ensures { result.now ≡ path_of self.now.atom }
     {
         &self.path
+    }
+
+    // Whether the path may fit the command: a path that fits one text alone fits no other.
+    fn may_fit(&self, command: &[u8]) -> bool
+        ensures { result ≡ false → (arguments : List ℕ)
+            → command_fits self.now.atom command.now arguments ≡ false }
+    {
+        match (&self.atom, &self.path_text) {
+            (Atom::Command { .. }, Some(text)) if self.is_simple => text.as_slice() == command,
+            _ => true,
+        }
+    }
+
+    /// Whether the command fits this command with these arguments.
+    pub(crate) fn fits(&self, command: &[u8], arguments: &[u8]) -> bool
+        ensures { result ≡ command_fits self.now.atom command.now arguments.now }
+    {
+        self.may_fit(command) && command_matches(&self.atom, command, arguments)
     }
 
     // Whether the path fits each path that the other's fits, as far as it is seen.
