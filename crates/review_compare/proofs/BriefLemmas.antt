@@ -93,7 +93,7 @@ asks-added p ws mid new asks k ask less is so_far one =
       only = λ a e. only a (one.only a e);
     }
 
--- asks of which some are told by groups of the target
+-- the asks of a run: one entry for groups of its target, and an entry for each other ask
 pub run-added : (p : Pair) (ws mid new : List AskedWith) (target : Option ℕ) (groups : AskedGroups) (run left : List Ask) →
     HasEach p run target groups → AreBut p target groups run left → AddsAsks p ws left mid → AddsTarget mid target groups new →
     AddsAsks p ws run new
@@ -115,7 +115,7 @@ run-added p ws mid new target groups run left has but more told = record {
     only a (inl e) = from a (more.only a e)
     only a (inr is) = inr (has a is)
 
--- one ask more, unless it is told
+-- a further ask is kept, unless the entry for the target covers it
 pub but-more : (p : Pair) (target : Option ℕ) (groups : AskedGroups) (asks : List Ask) (k : ℕ) (a : Ask) (b : Bool) (left new : List Ask) →
     k < length asks → a ≡ get_or asks k a → AreBut p target groups (take k asks) left → new ≡ left ++ cond b (a ∷ []) [] →
     (b ≡ false → IsAskedFor (asking p) target groups a) → AreBut p target groups (take (k + 1) asks) new

@@ -199,7 +199,7 @@ shared-of-one p forms s ask v answered first same are = record {
     go a (inl none) = absurd (omega (arith, none.1))
     go a (inr here) = subst (λ (b : Ask). AreAnswered p forms b s.answers.old.items s.answers.new.items) here its
 
--- in brief they are the same asks
+-- a class with brief entries has the same asks
 pub briefly-shared : (p : Pair) (forms : Listed) → AreFormsIn p forms → (k : AnsweredAsks) (s : SharedAsks) → IsAnsweredAlike p forms k →
     IsBriefly p k s → IsShared p s
 briefly-shared p forms are k s is brief a e = go ((brief.asked).only a e)
@@ -229,13 +229,13 @@ have-briefly p (k ∷ ks) [] brief a e = absurd brief
 have-briefly p (k ∷ ks) (s ∷ ss) brief a (inl here) = inl (((brief.0).asked).added a here)
 have-briefly p (k ∷ ks) (s ∷ ss) brief a (inr more) = inr (have-briefly p ks ss brief.1 a more)
 
--- asks that are split are so in brief
+-- asks that are split stay so with brief entries
 pub still-split : (p : Pair) (ks : List AnsweredAsks) (ss : List SharedAsks) (own : List Ask) → AreBriefly p ks ss → (a : Ask) →
     Contains own a ⊎ HaveAnswered ks a → Contains own a ⊎ HaveShared (asking p) ss a
 still-split p ks ss own brief a (inl e) = inl e
 still-split p ks ss own brief a (inr e) = inr (have-briefly p ks ss brief a e)
 
--- one class more in brief
+-- one further class with brief entries
 pub briefly-more : (p : Pair) (ks : List AnsweredAsks) (ss : List SharedAsks) (k : AnsweredAsks) (s : SharedAsks) → AreBriefly p ks ss →
     IsBriefly p k s → AreBriefly p (ks ++ k ∷ []) (ss ++ s ∷ [])
 briefly-more p [] [] k s are is = (is, tt)

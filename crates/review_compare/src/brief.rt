@@ -112,7 +112,7 @@ fn push_each(
     Ok(())
 }
 
-// Whether it is an ask for the target with one of the groups.
+// Whether the ask is for the target, with one of the groups.
 fn is_told(pair: &Pair<'_>, target: Option<usize>, groups: AskedGroups, ask: Ask) -> bool
     ensures { result ≡ true → IsAskedFor (asking pair.now) target groups ask }
 {
@@ -136,7 +136,7 @@ fn asks_but(
     Ok(left)
 }
 
-// Adds asks, of which those for the target are told by its groups where that is brief.
+// Adds asks: one entry for the groups that the target has, or has not, if it is asked for with each of these, and each other ask.
 fn push_run(
     alloc: Global,
     pair: &Pair<'_>,
@@ -169,8 +169,8 @@ fn run_len(asks: &[Ask]) -> usize
     len
 }
 
-/// Returns asks in brief. Those for one target stand together, in the order of the groups; otherwise it is less brief. Returns
-/// `AllocError` if allocation fails.
+/// Returns asks with one entry for the groups of a target where it can. Asks that do not stand together by targets, in the order of the
+/// groups, get entries of their own. Returns `AllocError` if allocation fails.
 pub(crate) fn brief_asks(
     alloc: Global,
     pair: &Pair<'_>,

@@ -170,7 +170,7 @@ fn no_cases<'b>(alloc: Global) -> Cases<'b>
     }
 }
 
-// Returns the cases of what is asked, by blocks of a policy.
+// Returns the cases of a command under blocks of a policy, for the user who asks.
 fn asked_cases<'b>(
     alloc: Global,
     checked: &Checked,

@@ -205,7 +205,7 @@ fn split_ask(
     }
 }
 
-// Returns the asks of each class in brief.
+// Returns the classes with brief entries for their asks.
 fn shared_asks(
     alloc: Global,
     pair: &Pair<'_>,

@@ -189,7 +189,7 @@ fn all_but(alloc: Global, names: &[Vec<u8>], indices: &[usize]) -> Result<Vec<u8
     Ok(text)
 }
 
-// Whether a list of what is missing is brief.
+// Whether there are more than four times as many names as are missing.
 fn is_brief(missing: &[usize], numbers: &[usize]) -> bool
     ensures { result ≡ nat_lt (4 * length missing.now) (length numbers.now) }
 {

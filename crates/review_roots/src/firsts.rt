@@ -11,22 +11,22 @@ use crate::search::Aim;
 use crate::steps::is_at;
 use std::alloc::{AllocError, Global};
 
-/// For each block that raises, the index of the first found state of a layer that it allows; and for each user, that of the first one
-/// which is the user. What stands there of other layers is told by its index: it is before this one, or behind what is found.
+/// For each block that raises, the index of the first found state of a layer that it allows; and for each user, that of the first state
+/// of this user. An index outside the layer counts as none: it lies before the layer, or behind all found states.
 #[derive(Drop)]
 pub(crate) struct Firsts {
     pub(crate) blocks: Vec<usize>,
     pub(crate) users: Vec<usize>,
 }
 
-// Returns so many indices behind all that is found.
+// Returns as many indices as counted, each behind all found states.
 fn nowhere(alloc: Global, count: usize) -> Result<Vec<usize>, AllocError> {
     let mut firsts = Vec::new(alloc);
     firsts.resize(count, usize::MAX)?;
     Ok(firsts)
 }
 
-/// Returns room for what is noted on a host. Returns `AllocError` if allocation fails.
+/// Returns tables in which no found state is noted. Returns `AllocError` if allocation fails.
 pub(crate) fn firsts_of(alloc: Global, steps: &HostSteps<'_, '_>) -> Result<Firsts, AllocError> {
     Ok(Firsts {
         blocks: nowhere(alloc, steps.blocks.len())?,
