@@ -18,10 +18,11 @@ use Rattle.review_compare.specs.declared.block.Block.{Block}
 use Rattle.review_compare.specs.declared.cell.Ask.{Ask}
 use Rattle.review_compare.specs.declared.cell.AskedGroups.{AskedGroups}
 use Rattle.review_compare.specs.declared.cell.AskedGroups.TheVariants as which
+use Rattle.review_compare.specs.declared.cell.AskedTargets.TheVariants as who
 use Rattle.review_compare.specs.Cells.{Decider}
 use Rattle.review_compare.specs.declared.pair.Pair.{Pair}
 use Rattle.review_compare.specs.declared.spot.Listed.{Listed}
-use Rattle.review_compare.specs.Differences.{Asking}
+use Rattle.review_compare.specs.Differences.{Asking, targets_of}
 use Rattle.review_compare.specs.Body.AskClasses.{AddsAsked, AddsTarget, AreAsked, Decide, HaveAsk, HaveIn, IsAskClass, IsAskedFor}
 use Rattle.review_compare.specs.Body.AskClasses.{IsAskedWith}
 use Rattle.review_compare.specs.Body.Progress.{asking}
@@ -90,29 +91,29 @@ module _ (p : Policy) (bs : List Block) (d : KnownRows) (u : Person) (first m : 
 -- the targets at an index with a further one
 module _ (target : Option ℕ) (groups : AskedGroups) (v : AskedWith) where
   abbrev IsWithTarget : AskedWith → Type 0
-  IsWithTarget w = (w.groups ≡ groups) × (v.groups ≡ w.groups) × (v.targets.items ≡ w.targets.items ++ target ∷ [])
+  IsWithTarget w = (w.groups ≡ groups) × (v.groups ≡ w.groups) × (targets_of v.targets.items ≡ targets_of w.targets.items ++ target ∷ [])
 
   with-kept : (w : AskedWith) → IsWithTarget w → (asks : Asking) (a : Ask) → IsAskedWith asks w a → IsAskedWith asks v a
   with-kept w adds asks a is = (
     ap (asks a.target a.group) adds.1 ∙ is.0,
     subst (λ (ts : List (Option ℕ)). Contains ts a.target) (sym adds.2)
-        (Contains-append_left w.targets.items (target ∷ []) a.target is.1),
+        (Contains-append_left (targets_of w.targets.items) (target ∷ []) a.target is.1),
   )
 
   with-added : (w : AskedWith) → IsWithTarget w → (asks : Asking) (a : Ask) → IsAskedFor asks target groups a → IsAskedWith asks v a
   with-added w adds asks a is = (
     ap (asks a.target a.group) (adds.1 ∙ adds.0) ∙ is.1,
-    subst (λ (t : Option ℕ). Contains v.targets.items t) is.0
-        (subst (λ (ts : List (Option ℕ)). Contains ts target) (sym adds.2) (Contains-push w.targets.items target)),
+    subst (λ (t : Option ℕ). Contains (targets_of v.targets.items) t) is.0
+        (subst (λ (ts : List (Option ℕ)). Contains ts target) (sym adds.2) (Contains-push (targets_of w.targets.items) target)),
   )
 
   with-only : (w : AskedWith) → IsWithTarget w → (asks : Asking) (a : Ask) → IsAskedWith asks v a →
       IsAskedWith asks w a ⊎ IsAskedFor asks target groups a
   with-only w adds asks a is =
-      by (ap (asks a.target a.group) (sym adds.1) ∙ is.0) (Contains-push_cases w.targets.items target a.target
+      by (ap (asks a.target a.group) (sym adds.1) ∙ is.0) (Contains-push_cases (targets_of w.targets.items) target a.target
       (subst (λ (ts : List (Option ℕ)). Contains ts a.target) adds.2 is.1))
     where
-      by : asks a.target a.group w.groups ≡ true → Contains w.targets.items a.target ⊎ (target ≡ a.target) →
+      by : asks a.target a.group w.groups ≡ true → Contains (targets_of w.targets.items) a.target ⊎ (target ≡ a.target) →
           IsAskedWith asks w a ⊎ IsAskedFor asks target groups a
       by g (inl there) = inl (g, there)
       by g (inr t) = inr (t, ap (asks a.target a.group) (sym adds.0) ∙ g)
@@ -148,7 +149,7 @@ module _ (target : Option ℕ) (groups : AskedGroups) (v : AskedWith) where
       go (inr is) = inr is
 
   pub target-added : (ws : List AskedWith) (i : ℕ) (d : AskedWith) → i < length ws → (get_or ws i d).groups ≡ groups →
-      v.groups ≡ (get_or ws i d).groups → v.targets.items ≡ (get_or ws i d).targets.items ++ target ∷ [] →
+      v.groups ≡ (get_or ws i d).groups → targets_of v.targets.items ≡ targets_of (get_or ws i d).targets.items ++ target ∷ [] →
       AddsTarget ws target groups (slice_set ws i v)
   target-added ws i d less own group targets = record {
     kept = set-kept ws i d less (own, group, targets);
@@ -179,13 +180,13 @@ asked-cases asks (v ∷ ws) w a (inr more) = go (asked-cases asks ws w a more)
 
 -- one target alone behind the others
 pub alone-added : (ws : List AskedWith) (w : AskedWith) (target : Option ℕ) (groups : AskedGroups) → w.groups ≡ groups →
-    w.targets.items ≡ target ∷ [] → AddsTarget ws target groups (ws ++ w ∷ [])
+    w.targets.items ≡ who.One target ∷ [] → AddsTarget ws target groups (ws ++ w ∷ [])
 alone-added ws w target groups own are = record {
   kept = λ asks a e. asked-first asks ws w a e;
   added = λ asks a is. asked-last asks ws w a (
     ap (asks a.target a.group) own ∙ is.1,
-    subst (λ (t : Option ℕ). Contains w.targets.items t) is.0
-        (subst (λ (ts : List (Option ℕ)). Contains ts target) (sym are) (Contains-push {X = Option ℕ} [] target)),
+    subst (λ (t : Option ℕ). Contains (targets_of w.targets.items) t) is.0
+        (subst (λ (ts : List (Option ℕ)). Contains ts target) (sym (ap targets_of are)) (Contains-push {X = Option ℕ} [] target)),
   );
   only = λ asks a e. go asks a (asked-cases asks ws w a e);
 }
@@ -198,7 +199,8 @@ alone-added ws w target groups own are = record {
     go : (asks : Asking) (a : Ask) → AreAsked asks ws a ⊎ IsAskedWith asks w a → AreAsked asks ws a ⊎ IsAskedFor asks target groups a
     go asks a (inl e) = inl e
     go asks a (inr is) =
-        inr (at asks a is.0 (Contains-push_cases [] target a.target (subst (λ (ts : List (Option ℕ)). Contains ts a.target) are is.1)))
+        inr (at asks a is.0 (Contains-push_cases [] target a.target
+        (subst (λ (ts : List (Option ℕ)). Contains ts a.target) (ap targets_of are) is.1)))
 
 -- a target with one group is an ask
 pub ask-added : (p : Pair) (ws new : List AskedWith) (ask : Ask) → AddsTarget ws ask.target (which.One ask.group) new →

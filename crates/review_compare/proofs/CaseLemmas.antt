@@ -3,12 +3,10 @@ use Rattle.std.proofs.Common.{◌≡◌, ◌∙◌, ℕ, Bool, true, false, cond
 use Rattle.std.specs.Prelude.{option_map}
 use Rattle.std.specs.Option.{option_or}
 use Rattle.std.proofs.lemmas.Bool.{and_parts}
-use Rattle.sudo_grammar.specs.declared.policy.Policy.{Policy}
 use Rattle.sudo_match.specs.declared.request.Tags.{Tags}
 use Rattle.sudo_match.specs.Matching.{command_fits}
 use Rattle.sudo_policy.proofs.SurveyLemmas.{option_or-none}
 use Rattle.sudo_verdict.specs.Last.{last_that}
-use Rattle.sudo_verdict.specs.Questions.{Question}
 use Rattle.sudo_verdict.proofs.Lasts.{last_that-append, option_map_or}
 use Rattle.review_compare.specs.Cases.{Cases, CasesAreSaid, SameCasesSaySame, adds_nothing, cases_on, is_empty, no_cases, said_where}
 use Rattle.review_compare.specs.Cases.{same_cases, same_row, same_rows, with_noted, with_row, with_row_if, with_rows}

@@ -1,6 +1,6 @@
 -- The comparison on a host holds on each host on which the same blocks list the user.
 use Rattle.std.proofs.Common.{◌≡◌, ◌∙◌, inl, inr, ℕ, Bool, true, false, cond, ◌||◌, List, [], ◌∷◌, ◌++◌, ap, arith, refl, sym}
-use Rattle.std.proofs.Common.{◌<◌, ◌+◌, ◌⊎◌, Global, Option, Some, Vec, get_or, length, subst, suc, take, zero}
+use Rattle.std.proofs.Common.{◌<◌, ◌+◌, ◌⊎◌, Global, Option, Some, Vec, get_or, length, subst, suc, zero}
 use Rattle.std.specs.Prelude.{◌==◌, slice_set}
 use Rattle.std.specs.List.{list_all, list_any}
 use Rattle.std.proofs.lemmas.Bool.{and_parts, eqb-true, or_cases, or_left, or_right}
@@ -11,7 +11,6 @@ use Rattle.sudo_match.specs.declared.people.Machine.{Machine}
 use Rattle.sudo_match.specs.declared.people.Person.{Person}
 use Rattle.sudo_match.specs.KnownRows.{KnownRows}
 use Rattle.sudo_verdict.specs.Questions.{Question, question_as}
-use Rattle.review_roots.proofs.ListSteps.{take-more}
 use Rattle.review_compare.specs.declared.ask_class.AskClass.{AskClass}
 use Rattle.review_compare.specs.declared.block.Block.{Block}
 use Rattle.review_compare.specs.declared.cell.Ask.{Ask}
@@ -30,11 +29,11 @@ use Rattle.review_compare.specs.Body.AskClasses.{AreAsked, changed_by}
 use Rattle.review_compare.specs.Body.Near.{IsFoundNear, each_one, near_deciders, near_of}
 use Rattle.review_compare.specs.Body.Classes.{AddsCells, AddsHosts, AreRightIn, AreSameBlocks, HaveHost, IsClass, IsClassed}
 use Rattle.review_compare.specs.Body.Classes.{IsFoundAt, IsOnClasses, IsWith}
-use Rattle.review_compare.specs.Body.Merged.{IsOnAmong, is_among}
+use Rattle.review_compare.specs.Body.Merged.{is_among}
 use Rattle.review_compare.specs.Body.Progress.{asking, AreListedIn, IsBefore, IsOnAsked, IsOnEach, IsSpot, Progress, cell_at}
 use Rattle.review_compare.specs.Body.Progress.{question_of}
 use Rattle.review_compare.proofs.ChosenLemmas.{stands-at}
-use Rattle.review_compare.proofs.DifferenceLemmas.{spot-question, went-on}
+use Rattle.review_compare.proofs.DifferenceLemmas.{spot-question}
 use Rattle.review_compare.proofs.NearLemmas.{found-moved, near_new, near_old, pair-all, pair-near}
 use Rattle.review_compare.proofs.UnchangedLemmas.{less-or, other-host-runas}
 
@@ -139,41 +138,12 @@ have-last : (ks : List HostClass) (k : HostClass) (host : ℕ) → is_among k.ho
 have-last [] k host on = inl on
 have-last (j ∷ ks) k host on = inr (have-last ks k host on)
 
-have-cases : (ks : List HostClass) (k : HostClass) (host : ℕ) → HaveHost (ks ++ k ∷ []) host →
-    HaveHost ks host ⊎ (is_among k.hosts.items host ≡ true)
-have-cases [] k host (inl on) = inr on
-have-cases [] k host (inr none) = absurd none
-have-cases (j ∷ ks) k host (inl here) = inl (inl here)
-have-cases (j ∷ ks) k host (inr more) = held (have-cases ks k host more)
-  where
-    held : HaveHost ks host ⊎ (is_among k.hosts.items host ≡ true) → HaveHost (j ∷ ks) host ⊎ (is_among k.hosts.items host ≡ true)
-    held (inl e) = inl (inr e)
-    held (inr e) = inr e
-
 -- a further class
 pub adds-class : (ks : List HostClass) (k : HostClass) (hosts : List ℕ) → k.hosts.items ≡ hosts → AddsHosts ks hosts (ks ++ k ∷ [])
 adds-class ks k hosts are = record {
   kept = λ other on. have-first ks k other on;
   added = λ host on. have-last ks k host (ap (λ hs. is_among hs host) are ∙ on);
 }
-
--- a class further
-pub class-step : (p : Pair) (rows new : List Row) (user : ℕ) (asked : Ask → Type 0) (ks : List HostClass) (n : ℕ) (k : HostClass) →
-    n < length ks → k ≡ get_or ks n k → Progress p [] rows (IsOnClasses user (take n ks) asked) →
-    Progress p rows new (IsOnAmong user k.hosts.items asked) → Progress p [] new (IsOnClasses user (take (n + 1) ks) asked)
-class-step p rows new user asked ks n k less is so_far one =
-    went-on p [] rows new (IsOnClasses user (take n ks) asked) (IsOnAmong user k.hosts.items asked)
-    (IsOnClasses user (take (n + 1) ks) asked) either so_far one
-  where
-    split : (c : Cell) → c.user ≡ user → asked c.ask → HaveHost (take n ks) c.host ⊎ (is_among k.hosts.items c.host ≡ true) →
-        IsOnClasses user (take n ks) asked c ⊎ IsOnAmong user k.hosts.items asked c
-    split c own is_asked (inl e) = inl (own, e, is_asked)
-    split c own is_asked (inr e) = inr (own, e, is_asked)
-
-    either : (c : Cell) → IsOnClasses user (take (n + 1) ks) asked c →
-        IsOnClasses user (take n ks) asked c ⊎ IsOnAmong user k.hosts.items asked c
-    either c on = split c on.0 on.2
-        (have-cases (take n ks) k c.host (subst (λ (js : List HostClass). HaveHost js c.host) (take-more ks n k less is) on.1))
 
 -- ---- A class with further hosts
 
@@ -268,25 +238,6 @@ have-set ks i k new hosts less is with_hosts = record {
         inl (ap (λ hs. is_among hs host) with_hosts.hosts_are ∙ among-append k.hosts.items hosts host
         ∙ or_right (is_among k.hosts.items host) (is_among hosts host) on)
     added host on (j ∷ js) (suc n) more own = inr (added host on js n (omega (arith, more)) own)
-
--- rows for classes that have the hosts of others
-pub classes-joined : (p : Pair) (rows : List Row) (ks js : List HostClass) (user : ℕ) (asked : Ask → Type 0) →
-    ((host : ℕ) → HaveHost ks host → HaveHost js host) → Progress p [] rows (IsOnClasses user js asked) →
-    Progress p [] rows (IsOnClasses user ks asked)
-classes-joined p rows ks js user asked held so_far = record {
-  kept = so_far.kept;
-  right = so_far.right;
-  done = λ c on. so_far.done c (on.0, held c.host on.1, on.2);
-}
-
--- the classes so far with a further one
-pub joined-more : (ks js new : List HostClass) (k : HostClass) → ((host : ℕ) → HaveHost ks host → HaveHost js host) →
-    AddsHosts js k.hosts.items new → (host : ℕ) → HaveHost (ks ++ k ∷ []) host → HaveHost new host
-joined-more ks js new k held adds host on = go (have-cases ks k host on)
-  where
-    go : HaveHost ks host ⊎ (is_among k.hosts.items host ≡ true) → HaveHost new host
-    go (inl there) = adds.kept host (held host there)
-    go (inr here) = adds.added host here
 
 -- ---- The hosts so far
 

@@ -3,7 +3,7 @@ use Rattle.std.proofs.Common.{◌≡◌, ◌<◌, ◌≤◌, ◌+◌, ◌∙◌,
 use Rattle.std.proofs.Common.{cond, flat_map, ap, arith, refl, sym, subst, Option, None, Some, length, take, get_or}
 use Rattle.std.specs.Prelude.{slice_get}
 use Rattle.std.specs.List.{range_with_len, Contains}
-use Rattle.std.proofs.lemmas.Bool.{and_parts, eqb-true}
+use Rattle.std.proofs.lemmas.Bool.{eqb-true}
 use Rattle.std.proofs.lemmas.List.Elements.{Contains-append_left, Contains-push, Contains-push_cases}
 use Rattle.sudo_match.specs.declared.people.Machine.{Machine}
 use Rattle.sudo_match.specs.declared.people.Person.{Person}
@@ -20,7 +20,7 @@ use Rattle.review_compare.specs.Differences.{is_this_user, is_host_if, is_user_i
 use Rattle.sudo_verdict.specs.Questions.{Question, question_as}
 use Rattle.review_compare.proofs.UnchangedLemmas.{less-or}
 use Rattle.review_compare.specs.Cells.{SaySame}
-use Rattle.review_compare.specs.Body.Merged.{same_numbers, AbsorbsAll}
+use Rattle.review_compare.specs.Body.Merged.{AbsorbsAll}
 use Rattle.review_compare.specs.Body.Progress.{asking, Progress, IsSpot, IsOnAsked, IsOnEach, IsBefore, IsForAsked, IsForUser}
 use Rattle.review_compare.specs.Body.Progress.{IsUserBefore}
 use Rattle.review_compare.specs.Body.Progress.{AreLeft, AreLeftForAll, AreLeftUnless, IsAsked, SayAllSame, ask_of, cell_at, question_of}
@@ -47,14 +47,6 @@ numbers-same (Some i) (Some j) e = ap (λ n. Some n) (eqb-true i j e)
 pub same-number : (o : Option ℕ) → same_number o o ≡ true
 same-number None = refl
 same-number (Some n) = grind arith
-
-pub lists-same : (xs ys : List (Option ℕ)) → same_numbers xs ys ≡ true → xs ≡ ys
-lists-same [] [] e = refl
-lists-same [] (y ∷ ys) e = cc
-lists-same (x ∷ xs) [] e = cc
-lists-same (x ∷ xs) (y ∷ ys) e =
-    let both = and_parts (same_number x y) (same_numbers xs ys) e in
-    ap (λ (v : Option ℕ). v ∷ xs) (numbers-same x y both.0) ∙ ap (λ (vs : List (Option ℕ)). y ∷ vs) (lists-same xs ys both.1)
 
 -- ---- Progress
 

@@ -21,12 +21,14 @@ pub mod NoteLemmas
 pub mod TextLemmas
 pub mod UnchangedLemmas
 pub mod ClassLemmas
+pub mod FoundLemmas
 pub mod ChangedLemmas
 pub mod UnsettledLemmas
 pub mod NearLemmas
 pub mod AskLemmas
 pub mod BriefLemmas
 pub mod SpotLemmas
+pub mod TargetLemmas
 pub mod SameRunasLemmas
 pub mod WhoeverLemmas
 pub mod SharedLemmas

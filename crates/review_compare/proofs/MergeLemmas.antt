@@ -1,15 +1,17 @@
 -- Rows that become one, and rows that are added to others.
 use Rattle.std.proofs.Common.{◌≡◌, ◌<◌, ◌∙◌, ◌⊎◌, inl, inr, ℕ, zero, suc, Bool, true, false, ◌&&◌, ◌||◌, List, [], ◌∷◌, ◌++◌, ap, arith}
-use Rattle.std.proofs.Common.{All, refl, sym, get_or, length}
+use Rattle.std.proofs.Common.{All, refl, sym, get_or, length, Option}
 use Rattle.std.specs.Prelude.{◌==◌, slice_set}
 use Rattle.std.specs.List.{list_any}
 use Rattle.std.proofs.lemmas.Bool.{or_cases, or_left, or_right}
+use Rattle.std.proofs.lemmas.List.Concat.{flat_map-append}
 use Rattle.std.proofs.lemmas.List.Folds.{list_any-append}
+use Rattle.review_compare.specs.declared.cell.AskedTargets.{AskedTargets}
 use Rattle.review_compare.specs.declared.cell.Cell.{Cell}
 use Rattle.review_compare.specs.declared.compared.Compared.{Compared}
 use Rattle.review_compare.specs.declared.row.Row.{Row}
-use Rattle.review_compare.specs.Differences.{Asking, Finds, has_cell, same_number}
-use Rattle.review_compare.specs.Body.Merged.{Absorbs, AbsorbsAll, IsJoined}
+use Rattle.review_compare.specs.Differences.{Asking, Finds, each_target, has_cell, same_number, targets_of}
+use Rattle.review_compare.specs.Body.Merged.{Absorbs, AbsorbsAll, IsJoined, has_target}
 
 -- ---- One row of two
 
@@ -23,16 +25,6 @@ first-of true false true true false = refl
 first-of true false true false g = refl
 first-of true false false t g = refl
 first-of false b h t g = refl
-
-second-of : (u a b t g : Bool) → ((u && (a || b)) && (t && g)) ≡ (((u && a) && (t && g)) || ((u && b) && (t && g)))
-second-of true true true true true = refl
-second-of true true true true false = refl
-second-of true true true false g = refl
-second-of true true false true true = refl
-second-of true true false true false = refl
-second-of true true false false g = refl
-second-of true false b t g = refl
-second-of false a b t g = refl
 
 third-of : (x a b g : Bool) → (x && ((a || b) && g)) ≡ ((x && (a && g)) || (x && (b && g)))
 third-of true true true true = refl
@@ -51,39 +43,24 @@ pub joined-users : (r s : Row) → (r.hosts ≡ s.hosts) × (r.targets ≡ s.tar
     IsJoined r s (record r { users = r.users ++ s.users })
 joined-users r s like = record {
   cells = λ asks c.
-      ap (λ v. (v && list_any (λ m. m == c.host) r.hosts) && (list_any (same_number c.ask.target) r.targets && list_any
+      ap (λ v. (v && list_any (λ m. m == c.host) r.hosts) && (list_any (same_number c.ask.target) (targets_of r.targets) && list_any
       (asks c.ask.target c.ask.group) r.groups))
       (list_any-append (λ u. u == c.user) r.users s.users)
       ∙ first-of (list_any (λ u. u == c.user) r.users) (list_any (λ u. u == c.user) s.users) (list_any (λ m. m == c.host) r.hosts)
-      (list_any (same_number c.ask.target) r.targets) (list_any (asks c.ask.target c.ask.group) r.groups)
+      (list_any (same_number c.ask.target) (targets_of r.targets)) (list_any (asks c.ask.target c.ask.group) r.groups)
       ∙ ap (λ hs. has_cell asks r c || ((list_any (λ u. u == c.user) s.users && list_any (λ m. m == c.host) hs)
-      && (list_any (same_number c.ask.target) r.targets && list_any (asks c.ask.target c.ask.group) r.groups))) like.0
+      && (list_any (same_number c.ask.target) (targets_of r.targets) && list_any (asks c.ask.target c.ask.group) r.groups))) like.0
       ∙ ap (λ ts. has_cell asks r c || ((list_any (λ u. u == c.user) s.users && list_any (λ m. m == c.host) s.hosts)
-      && (list_any (same_number c.ask.target) ts && list_any (asks c.ask.target c.ask.group) r.groups))) like.1
+      && (list_any (same_number c.ask.target) (targets_of ts) && list_any (asks c.ask.target c.ask.group) r.groups))) like.1
       ∙ ap (λ gs. has_cell asks r c || ((list_any (λ u. u == c.user) s.users && list_any (λ m. m == c.host) s.hosts)
-      && (list_any (same_number c.ask.target) s.targets && list_any (asks c.ask.target c.ask.group) gs))) like.2;
+      && (list_any (same_number c.ask.target) (targets_of s.targets) && list_any (asks c.ask.target c.ask.group) gs))) like.2;
   first = refl;
   second = like.3;
 }
 
-pub joined-hosts : (r s : Row) → (r.users ≡ s.users) × (r.targets ≡ s.targets) × (r.groups ≡ s.groups) × (r.found ≡ s.found) →
-    IsJoined r s (record r { hosts = r.hosts ++ s.hosts })
-joined-hosts r s like = record {
-  cells = λ asks c.
-      ap (λ v. (list_any (λ u. u == c.user) r.users && v) && (list_any (same_number c.ask.target) r.targets && list_any
-      (asks c.ask.target c.ask.group) r.groups))
-      (list_any-append (λ m. m == c.host) r.hosts s.hosts)
-      ∙ second-of (list_any (λ u. u == c.user) r.users) (list_any (λ m. m == c.host) r.hosts) (list_any (λ m. m == c.host) s.hosts)
-      (list_any (same_number c.ask.target) r.targets) (list_any (asks c.ask.target c.ask.group) r.groups)
-      ∙ ap (λ us. has_cell asks r c || ((list_any (λ u. u == c.user) us && list_any (λ m. m == c.host) s.hosts)
-      && (list_any (same_number c.ask.target) r.targets && list_any (asks c.ask.target c.ask.group) r.groups))) like.0
-      ∙ ap (λ ts. has_cell asks r c || ((list_any (λ u. u == c.user) s.users && list_any (λ m. m == c.host) s.hosts)
-      && (list_any (same_number c.ask.target) ts && list_any (asks c.ask.target c.ask.group) r.groups))) like.1
-      ∙ ap (λ gs. has_cell asks r c || ((list_any (λ u. u == c.user) s.users && list_any (λ m. m == c.host) s.hosts)
-      && (list_any (same_number c.ask.target) s.targets && list_any (asks c.ask.target c.ask.group) gs))) like.2;
-  first = refl;
-  second = like.3;
-}
+has-append : (t : Option ℕ) (xs ys : List AskedTargets) → has_target (xs ++ ys) t ≡ (has_target xs t || has_target ys t)
+has-append t xs ys =
+    ap (list_any (same_number t)) (flat_map-append each_target xs ys) ∙ list_any-append (same_number t) (targets_of xs) (targets_of ys)
 
 pub joined-targets : (r s : Row) → (r.users ≡ s.users) × (r.hosts ≡ s.hosts) × (r.groups ≡ s.groups) × (r.found ≡ s.found) →
     IsJoined r s (record r { targets = r.targets ++ s.targets })
@@ -91,16 +68,16 @@ joined-targets r s like = record {
   cells = λ asks c.
       ap (λ v. (list_any (λ u. u == c.user) r.users && list_any (λ m. m == c.host) r.hosts) && (v && list_any
       (asks c.ask.target c.ask.group) r.groups))
-      (list_any-append (same_number c.ask.target) r.targets s.targets)
+      (has-append c.ask.target r.targets s.targets)
       ∙ third-of (list_any (λ u. u == c.user) r.users && list_any (λ m. m == c.host) r.hosts)
-      (list_any (same_number c.ask.target) r.targets) (list_any (same_number c.ask.target) s.targets) (list_any
+      (list_any (same_number c.ask.target) (targets_of r.targets)) (list_any (same_number c.ask.target) (targets_of s.targets)) (list_any
       (asks c.ask.target c.ask.group) r.groups)
       ∙ ap (λ us. has_cell asks r c || ((list_any (λ u. u == c.user) us && list_any (λ m. m == c.host) r.hosts)
-      && (list_any (same_number c.ask.target) s.targets && list_any (asks c.ask.target c.ask.group) r.groups))) like.0
+      && (list_any (same_number c.ask.target) (targets_of s.targets) && list_any (asks c.ask.target c.ask.group) r.groups))) like.0
       ∙ ap (λ hs. has_cell asks r c || ((list_any (λ u. u == c.user) s.users && list_any (λ m. m == c.host) hs)
-      && (list_any (same_number c.ask.target) s.targets && list_any (asks c.ask.target c.ask.group) r.groups))) like.1
+      && (list_any (same_number c.ask.target) (targets_of s.targets) && list_any (asks c.ask.target c.ask.group) r.groups))) like.1
       ∙ ap (λ gs. has_cell asks r c || ((list_any (λ u. u == c.user) s.users && list_any (λ m. m == c.host) s.hosts)
-      && (list_any (same_number c.ask.target) s.targets && list_any (asks c.ask.target c.ask.group) gs))) like.2;
+      && (list_any (same_number c.ask.target) (targets_of s.targets) && list_any (asks c.ask.target c.ask.group) gs))) like.2;
   first = refl;
   second = like.3;
 }
@@ -110,17 +87,17 @@ pub joined-groups : (r s : Row) → (r.users ≡ s.users) × (r.hosts ≡ s.host
 joined-groups r s like = record {
   cells = λ asks c.
       ap (λ v. (list_any (λ u. u == c.user) r.users && list_any (λ m. m == c.host) r.hosts) && (list_any
-      (same_number c.ask.target) r.targets && v))
+      (same_number c.ask.target) (targets_of r.targets) && v))
       (list_any-append (asks c.ask.target c.ask.group) r.groups s.groups)
       ∙ fourth-of (list_any (λ u. u == c.user) r.users && list_any (λ m. m == c.host) r.hosts)
-      (list_any (same_number c.ask.target) r.targets) (list_any (asks c.ask.target c.ask.group) r.groups) (list_any
+      (list_any (same_number c.ask.target) (targets_of r.targets)) (list_any (asks c.ask.target c.ask.group) r.groups) (list_any
       (asks c.ask.target c.ask.group) s.groups)
       ∙ ap (λ us. has_cell asks r c || ((list_any (λ u. u == c.user) us && list_any (λ m. m == c.host) r.hosts)
-      && (list_any (same_number c.ask.target) r.targets && list_any (asks c.ask.target c.ask.group) s.groups))) like.0
+      && (list_any (same_number c.ask.target) (targets_of r.targets) && list_any (asks c.ask.target c.ask.group) s.groups))) like.0
       ∙ ap (λ hs. has_cell asks r c || ((list_any (λ u. u == c.user) s.users && list_any (λ m. m == c.host) hs)
-      && (list_any (same_number c.ask.target) r.targets && list_any (asks c.ask.target c.ask.group) s.groups))) like.1
+      && (list_any (same_number c.ask.target) (targets_of r.targets) && list_any (asks c.ask.target c.ask.group) s.groups))) like.1
       ∙ ap (λ ts. has_cell asks r c || ((list_any (λ u. u == c.user) s.users && list_any (λ m. m == c.host) s.hosts)
-      && (list_any (same_number c.ask.target) ts && list_any (asks c.ask.target c.ask.group) s.groups))) like.2;
+      && (list_any (same_number c.ask.target) (targets_of ts) && list_any (asks c.ask.target c.ask.group) s.groups))) like.2;
   first = refl;
   second = like.3;
 }

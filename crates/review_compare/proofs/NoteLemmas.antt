@@ -1,5 +1,5 @@
 -- Rows behind notes are at places with notes; where the last row that fits is at a place without a note, nothing depends.
-use Rattle.std.proofs.Common.{◌≡◌, ◌<◌, ◌+◌, ◌∙◌, ℕ, Bool, true, false, cond, ◌&&◌, ◌||◌, ◌⊎◌, inl, inr, List, [], ◌∷◌, ◌++◌, map}
+use Rattle.std.proofs.Common.{◌≡◌, ◌<◌, ◌+◌, ◌∙◌, ℕ, Bool, true, false, cond, ◌&&◌, ◌||◌, ◌⊎◌, inl, inr, List, [], ◌∷◌, map}
 use Rattle.std.proofs.Common.{Option, Some, None, Result, Ok, Err, ap, get_or, length, refl, sym, take}
 use Rattle.std.specs.Prelude.{◌==◌, filter, is_some, not}
 use Rattle.std.specs.List.{list_all, list_any}
@@ -8,7 +8,6 @@ use Rattle.std.proofs.lemmas.Bool.{and_from, and_parts, or_cases}
 use Rattle.std.proofs.lemmas.List.{map-append}
 use Rattle.std.proofs.lemmas.List.Folds.{list_all-append, list_all-map, list_any-append}
 use Rattle.sudo_text.specs.declared.line.Place.{Place}
-use Rattle.sudo_grammar.specs.declared.kind.Atom.{Atom}
 use Rattle.sudo_grammar.specs.declared.policy.Policy.{Policy}
 use Rattle.sudo_match.specs.KnownRows.{KnownRows}
 use Rattle.sudo_match.specs.declared.request.Request.{Request}
@@ -32,9 +31,9 @@ use Rattle.review_compare.specs.declared.ruling.Ruled.{Ruled}
 use Rattle.review_compare.specs.Cases.{Cases, UnnotedCasesHold, adds_nothing, bears, cases_if_known, cases_of, cases_on, no_cases}
 use Rattle.review_compare.specs.Cases.{notes_of, said_where, with_noted, with_row, with_row_if, with_rows}
 use Rattle.review_compare.specs.Cells.{Decider, Wide, answered_by, answered_if_any, deciders, line_after, lined, lined_of, lined_one}
-use Rattle.review_compare.specs.Cells.{policy_rows, verdict_where, wide_of, wide_stands, with_before}
+use Rattle.review_compare.specs.Cells.{policy_rows, wide_of, wide_stands, with_before}
 use Rattle.review_compare.specs.Compared.{said}
-use Rattle.review_compare.specs.Lines.{Choice, Line, all_met, at_line, fits_where, is_note_atom, is_unnoted, noted, nowhere}
+use Rattle.review_compare.specs.Lines.{Line, all_met, at_line, fits_where, is_note_atom, is_unnoted, noted, nowhere}
 use Rattle.review_compare.specs.Body.Asked.{is_unnoted_at, settled}
 use Rattle.review_compare.specs.Body.Commands.{is_noted}
 use Rattle.review_compare.specs.Body.Shown.{all_shown, shown}

@@ -20,6 +20,7 @@ use Rattle.review_compare.specs.declared.pair.Pair.{Pair}
 use Rattle.review_compare.specs.declared.row.Row.{Row}
 use Rattle.review_compare.specs.declared.cell.AskedGroups.{AskedGroups}
 use Rattle.review_compare.specs.declared.cell.AskedGroups.TheVariants as which
+use Rattle.review_compare.specs.declared.cell.AskedTargets.{AskedTargets}
 use Rattle.review_compare.specs.declared.shared.AnsweredAsks.{AnsweredAsks}
 use Rattle.review_compare.specs.declared.shared.Answers.{Answers}
 use Rattle.review_compare.specs.declared.shared.SharedAsks.{SharedAsks}
@@ -27,7 +28,7 @@ use Rattle.review_compare.specs.declared.shared.SplitAsks.{SplitAsks}
 use Rattle.review_compare.specs.declared.spot.Listed.{Listed}
 use Rattle.review_compare.specs.Blocks.{block_decider}
 use Rattle.review_compare.specs.Cells.{Decider}
-use Rattle.review_compare.specs.Differences.{Asking, IsDone}
+use Rattle.review_compare.specs.Differences.{Asking, IsDone, targets_of}
 use Rattle.review_compare.specs.Body.AskClasses.{AreAsked, Decide, IsAskClass, IsAskedWith, changed_by, plain}
 use Rattle.review_compare.specs.Body.Chosen.{runas_at, runas_if, standing_among, standing_if}
 use Rattle.review_compare.specs.Body.Classes.{AreSameBlocks}
@@ -86,23 +87,23 @@ decide-alike p u a b l alike decide = record {
 
 -- ---- Copies of asks
 
-abbrev head : List (AskedGroups × List (Option ℕ)) → AskedGroups × List (Option ℕ)
+abbrev head : List (AskedGroups × List AskedTargets) → AskedGroups × List AskedTargets
 head [] = (which.Own, [])
 head (x ∷ xs) = x
 
-abbrev tail : List (AskedGroups × List (Option ℕ)) → List (AskedGroups × List (Option ℕ))
+abbrev tail : List (AskedGroups × List AskedTargets) → List (AskedGroups × List AskedTargets)
 tail [] = []
 tail (x ∷ xs) = xs
 
 plain-append : (ws vs : List AskedWith) → map plain (ws ++ vs) ≡ map plain ws ++ map plain vs
 plain-append [] vs = refl
-plain-append (w ∷ ws) vs = ap (λ (xs : List (AskedGroups × List (Option ℕ))). plain w ∷ xs) (plain-append ws vs)
+plain-append (w ∷ ws) vs = ap (λ (xs : List (AskedGroups × List AskedTargets)). plain w ∷ xs) (plain-append ws vs)
 
 module _ (asks : Asking) where
   moved : (w v : AskedWith) (a : Ask) → plain w ≡ plain v → IsAskedWith asks w a → IsAskedWith asks v a
   moved w v a e is = (
-    ap (λ (x : AskedGroups × List (Option ℕ)). asks a.target a.group x.0) (sym e) ∙ is.0,
-    subst (λ (ts : List (Option ℕ)). Contains ts a.target) (ap (λ (x : AskedGroups × List (Option ℕ)). x.1) e) is.1,
+    ap (λ (x : AskedGroups × List AskedTargets). asks a.target a.group x.0) (sym e) ∙ is.0,
+    subst (λ (ts : List AskedTargets). Contains (targets_of ts) a.target) (ap (λ (x : AskedGroups × List AskedTargets). x.1) e) is.1,
   )
 
   pub plain-asked : (ws vs : List AskedWith) → map plain ws ≡ map plain vs → (a : Ask) → AreAsked asks ws a → AreAsked asks vs a

@@ -5,7 +5,6 @@ use Rattle.std.specs.Prelude.{◌==◌, slice_index_or}
 use Rattle.std.specs.List.{list_any}
 use Rattle.std.proofs.lemmas.Bool.{and_from, and_parts, eqb-true, or_left, or_right}
 use Rattle.std.proofs.lemmas.List.{get_or_append_left, get_or_push}
-use Rattle.std.proofs.lemmas.List.Sorted.{list_any-IsPermutation}
 use Rattle.std.proofs.lemmas.Map.Views.{Contains-from_any}
 use Rattle.sudo_verdict.specs.Questions.{Question}
 use Rattle.review_roots.proofs.ListSteps.{take-more}
@@ -21,17 +20,18 @@ use Rattle.review_compare.specs.declared.row.Row.{Row}
 use Rattle.review_compare.specs.declared.spot.Spot.{Spot}
 use Rattle.review_compare.specs.Cells.{Decider, deciders}
 use Rattle.review_compare.specs.Differences.{Asking, Finds, FoundIf, IsDone, IsFound, SameIf, has_cell, question_at, same_number}
+use Rattle.review_compare.specs.Differences.{targets_of}
 use Rattle.review_compare.specs.Witnesses.{IsCompared}
-use Rattle.review_compare.specs.Body.AskClasses.{AreAsked, HaveAsk, IsAskClass, IsAskedWith, changed_by, kept_new, kept_old, on_new}
+use Rattle.review_compare.specs.Body.AskClasses.{AreAsked, IsAskClass, IsAskedWith, changed_by, kept_new, kept_old, on_new}
 use Rattle.review_compare.specs.Body.AskClasses.{on_old}
 use Rattle.review_compare.specs.Body.Comparisons.{IsCopy}
 use Rattle.review_compare.specs.Body.Classes.{AreRightIn, IsFoundAt, IsRightIn}
 use Rattle.review_compare.specs.Body.Near.{IsFoundNear}
-use Rattle.review_compare.specs.Body.Merged.{Absorbs, AddsFound, AreMerged, AreOrdered, IsOnAmong, IsOrdered, IsRowOf, is_among}
+use Rattle.review_compare.specs.Body.Merged.{Absorbs, AddsFound, AreMerged, AreOrdered, IsOnAmong, IsOrdered, IsRowOf, has_target, is_among}
 use Rattle.review_compare.specs.Body.Progress.{IsSpot, Progress, asking, question_of}
-use Rattle.review_compare.proofs.AskLemmas.{asked-cases, asked-first, asked-last, classes-cases}
+use Rattle.review_compare.proofs.AskLemmas.{asked-cases, asked-first, asked-last}
 use Rattle.review_compare.proofs.ClassLemmas.{asked-here, or-false, same-self, single}
-use Rattle.review_compare.proofs.DifferenceLemmas.{all-added, nothing-added, numbers-same, same-number, went-on}
+use Rattle.review_compare.proofs.DifferenceLemmas.{all-added, nothing-added, numbers-same, same-number}
 use Rattle.review_compare.proofs.NearLemmas.{found-all, found-kept, found-moved, near-twice, near_new, near_old, pair-kept}
 use Rattle.review_compare.proofs.NearLemmas.{pair-kept-all, pair-near}
 use Rattle.review_compare.proofs.UnchangedLemmas.{less-or}
@@ -57,22 +57,25 @@ module _ (asks : Asking) where
       ap (list_any (λ u. u == c.user)) row.users ∙ single user c.user ∙ ap (λ n. n == c.user) (sym on.0) ∙ same-self c.user in
       let there : list_any (λ m. m == c.host) r.hosts ≡ true = ap (list_any (λ m. m == c.host)) row.hosts_are ∙ on.1 in
       let asked = on.2.1 in
-      let targets : list_any (same_number c.ask.target) r.targets ≡ true =
-      ap (list_any (same_number c.ask.target)) row.targets ∙ contains-any c.ask.target w.targets.items asked.0 asked.1 asked.2 in
+      let targets : list_any (same_number c.ask.target) (targets_of r.targets) ≡ true =
+      ap (λ ts. has_target ts c.ask.target) row.targets
+      ∙ contains-any c.ask.target (targets_of w.targets.items) asked.0 asked.1 asked.2 in
       let groups : list_any (asks c.ask.target c.ask.group) r.groups ≡ true =
       ap (list_any (asks c.ask.target c.ask.group)) row.groups ∙ one-of c w.groups ∙ on.2.0 in
       and_from (list_any (λ u. u == c.user) r.users && list_any (λ m. m == c.host) r.hosts)
-      (list_any (same_number c.ask.target) r.targets && list_any (asks c.ask.target c.ask.group) r.groups)
+      (list_any (same_number c.ask.target) (targets_of r.targets) && list_any (asks c.ask.target c.ask.group) r.groups)
       (and_from (list_any (λ u. u == c.user) r.users) (list_any (λ m. m == c.host) r.hosts) own there)
-      (and_from (list_any (same_number c.ask.target) r.targets) (list_any (asks c.ask.target c.ask.group) r.groups) targets groups)
+      (and_from (list_any (same_number c.ask.target) (targets_of r.targets)) (list_any (asks c.ask.target c.ask.group) r.groups)
+      targets groups)
 
   has-row : (user : ℕ) (hosts : List ℕ) (w : AskedWith) (f : Compared) (r : Row) → IsRowOf user hosts w f r → (c : Cell) →
       has_cell asks r c ≡ true → IsOnAmong user hosts (IsAskedWith asks w) c
   has-row user hosts w f r row c has =
       let both = and_parts (list_any (λ u. u == c.user) r.users && list_any (λ m. m == c.host) r.hosts)
-      (list_any (same_number c.ask.target) r.targets && list_any (asks c.ask.target c.ask.group) r.groups) has in
+      (list_any (same_number c.ask.target) (targets_of r.targets) && list_any (asks c.ask.target c.ask.group) r.groups) has in
       let spot = and_parts (list_any (λ u. u == c.user) r.users) (list_any (λ m. m == c.host) r.hosts) both.0 in
-      let asked = and_parts (list_any (same_number c.ask.target) r.targets) (list_any (asks c.ask.target c.ask.group) r.groups) both.1 in
+      let asked = and_parts (list_any (same_number c.ask.target) (targets_of r.targets))
+      (list_any (asks c.ask.target c.ask.group) r.groups) both.1 in
       let user_is : (user == c.user) ≡ true = sym (single user c.user) ∙ ap (list_any (λ u. u == c.user)) (sym row.users) ∙ spot.0 in
       let group_is : asks c.ask.target c.ask.group w.groups ≡ true =
       sym (one-of c w.groups) ∙ ap (list_any (asks c.ask.target c.ask.group)) (sym row.groups) ∙ asked.1 in (
@@ -80,8 +83,8 @@ module _ (asks : Asking) where
         ap (list_any (λ m. m == c.host)) (sym row.hosts_are) ∙ spot.1,
         (
           group_is,
-          Contains-from_any numbers-same c.ask.target w.targets.items
-              (ap (list_any (same_number c.ask.target)) (sym row.targets) ∙ asked.0),
+          Contains-from_any numbers-same c.ask.target (targets_of w.targets.items)
+              (ap (λ ts. has_target ts c.ask.target) (sym row.targets) ∙ asked.0),
         ),
       )
 
@@ -232,41 +235,19 @@ class-same p user hosts asked rows f is same = nothing-added p rows (IsOnAmong u
     (λ c on. found-same p (question_at p.directory.now p.groups.now c)
     (subst (λ (g : Compared). IsFoundAt p (question_at p.directory.now p.groups.now c) g) same (is c on)))
 
--- one class more
-pub class-more : (p : Pair) (rows new : List Row) (user : ℕ) (hosts : List ℕ) (ks : List AskClass) (n : ℕ) (k : AskClass) →
-    n < length ks → k ≡ get_or ks n k → Progress p [] rows (IsOnAmong user hosts (HaveAsk (asking p) (take n ks))) →
-    Progress p rows new (IsOnAmong user hosts (AreAsked (asking p) k.asked.items)) →
-    Progress p [] new (IsOnAmong user hosts (HaveAsk (asking p) (take (n + 1) ks)))
-class-more p rows new user hosts ks n k less is so_far one =
-    went-on p [] rows new (IsOnAmong user hosts (HaveAsk (asking p) (take n ks))) (IsOnAmong user hosts (AreAsked (asking p) k.asked.items))
-    (IsOnAmong user hosts (HaveAsk (asking p) (take (n + 1) ks))) either so_far one
-  where
-    split : (c : Cell) → c.user ≡ user → is_among hosts c.host ≡ true →
-        HaveAsk (asking p) (take n ks) c.ask ⊎ AreAsked (asking p) k.asked.items c.ask →
-        IsOnAmong user hosts (HaveAsk (asking p) (take n ks)) c ⊎ IsOnAmong user hosts (AreAsked (asking p) k.asked.items) c
-    split c u m (inl there) = inl (u, m, there)
-    split c u m (inr here) = inr (u, m, here)
-
-    either : (c : Cell) → IsOnAmong user hosts (HaveAsk (asking p) (take (n + 1) ks)) c →
-        IsOnAmong user hosts (HaveAsk (asking p) (take n ks)) c ⊎ IsOnAmong user hosts (AreAsked (asking p) k.asked.items) c
-    either c on = split c on.0 on.1
-        (classes-cases (asking p) (take n ks) k c.ask (subst (λ (js : List AskClass). HaveAsk (asking p) js c.ask)
-        (take-more ks n k less is) on.2))
-
 -- ---- Rows with their targets in order
 
 ordered-has : (asks : Asking) (r s : Row) → IsOrdered r s → (c : Cell) → has_cell asks s c ≡ has_cell asks r c
 ordered-has asks r s is c =
     ap (λ us. (list_any (λ u. u == c.user) us && list_any (λ m. m == c.host) s.hosts)
-    && (list_any (same_number c.ask.target) s.targets && list_any (asks c.ask.target c.ask.group) s.groups)) is.users
+    && (list_any (same_number c.ask.target) (targets_of s.targets) && list_any (asks c.ask.target c.ask.group) s.groups)) is.users
     ∙ ap (λ b. (list_any (λ u. u == c.user) r.users && b)
-    && (list_any (same_number c.ask.target) s.targets && list_any (asks c.ask.target c.ask.group) s.groups))
-    (sym (list_any-IsPermutation (λ m. m == c.host) r.hosts s.hosts is.hosts))
+    && (list_any (same_number c.ask.target) (targets_of s.targets) && list_any (asks c.ask.target c.ask.group) s.groups))
+    (ap (list_any (λ m. m == c.host)) is.hosts)
     ∙ ap (λ b. (list_any (λ u. u == c.user) r.users && list_any (λ m. m == c.host) r.hosts)
-    && (b && list_any (asks c.ask.target c.ask.group) s.groups)) (sym (list_any-IsPermutation (same_number c.ask.target) r.targets s.targets
-    is.targets))
+    && (b && list_any (asks c.ask.target c.ask.group) s.groups)) (is.targets c.ask.target)
     ∙ ap (λ gs. (list_any (λ u. u == c.user) r.users && list_any (λ m. m == c.host) r.hosts)
-    && (list_any (same_number c.ask.target) r.targets && list_any (asks c.ask.target c.ask.group) gs)) is.groups
+    && (list_any (same_number c.ask.target) (targets_of r.targets) && list_any (asks c.ask.target c.ask.group) gs)) is.groups
 
 finds-ordered : (asks : Asking) (rows os : List Row) → AreOrdered rows os → (c : Cell) (f : Compared) → Finds asks rows c f →
     Finds asks os c f

@@ -1,6 +1,6 @@
 -- The cells of two policies, and the rows of the table of their differences.
-use Rattle.std.specs.Prelude.{◌≡◌, ◌⊎◌, ℕ, Bool, true, false, not, ◌&&◌, ◌==◌, List, [], ◌∷◌, flat_map, length, map, slice_get}
-use Rattle.std.specs.Prelude.{bytes_eq, Option, Some, None}
+use Rattle.std.specs.Prelude.{◌≡◌, ◌⊎◌, ℕ, ◌-◌, Bool, true, false, not, ◌&&◌, ◌==◌, List, [], ◌∷◌, flat_map, length, map}
+use Rattle.std.specs.Prelude.{bytes_eq, slice_get, Option, Some, None}
 use Rattle.std.specs.List.{list_any, range_with_len, Contains}
 use Rattle.sudo_grammar.specs.declared.policy.Policy.{Policy}
 use Rattle.sudo_match.specs.declared.people.Group.{Group}
@@ -12,6 +12,8 @@ use Rattle.sudo_verdict.specs.RunasForms.{has_group}
 use Rattle.review_compare.specs.declared.cell.Ask.{Ask}
 use Rattle.review_compare.specs.declared.cell.AskedGroups.{AskedGroups}
 use Rattle.review_compare.specs.declared.cell.AskedGroups.TheVariants as which
+use Rattle.review_compare.specs.declared.cell.AskedTargets.{AskedTargets}
+use Rattle.review_compare.specs.declared.cell.AskedTargets.TheVariants as who
 use Rattle.review_compare.specs.declared.cell.Cell.{Cell}
 use Rattle.review_compare.specs.declared.compared.Compared.{Compared}
 use Rattle.review_compare.specs.declared.row.Row.{Row}
@@ -59,6 +61,15 @@ same_number None None = true
 same_number (Some i) (Some j) = i == j
 same_number _ _ = false
 
+-- no one or the user at an index; the users from an index up to another one
+abbrev pub each_target : AskedTargets → List (Option ℕ)
+each_target (who.One target) = target ∷ []
+each_target (who.Range first end) = map (λ i. Some i) (range_with_len first (end - first))
+
+-- the targets that are asked for, one by one
+abbrev pub targets_of : List AskedTargets → List (Option ℕ)
+targets_of targets = flat_map each_target targets
+
 -- which groups a row asks for with a target: whether the group at an index is one of them, if there is any
 abbrev pub Asking : Type 0
 Asking = Option ℕ → Option ℕ → AskedGroups → Bool
@@ -74,7 +85,7 @@ is_asked d groups target group which.Others = is_exactly false (has_if (known_at
 abbrev pub has_cell : Asking → Row → Cell → Bool
 has_cell asks r c =
     (list_any (λ u. u == c.user) r.users && list_any (λ m. m == c.host) r.hosts)
-    && (list_any (same_number c.ask.target) r.targets && list_any (asks c.ask.target c.ask.group) r.groups)
+    && (list_any (same_number c.ask.target) (targets_of r.targets) && list_any (asks c.ask.target c.ask.group) r.groups)
 
 -- a row has the cell, with this finding
 abbrev pub Finds : Asking → List Row → Cell → Compared → Type 0

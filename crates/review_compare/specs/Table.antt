@@ -25,6 +25,7 @@ use Rattle.review_compare.specs.declared.compared.Decider.{Decider}
 use Rattle.review_compare.specs.declared.row.Row.{Row}
 use Rattle.review_compare.specs.declared.witness.Witness.{Witness}
 use Rattle.review_compare.specs.Cells.{answered_by}
+use Rattle.review_compare.specs.Differences.{targets_of}
 use Rattle.review_compare.specs.Names.{answer_name}
 
 -- the names of the known users and hosts, and of the groups, each as it would stand in a policy
@@ -104,7 +105,7 @@ abbrev pub row_head : KnownRows → List Group → Row → List ℕ
 row_head d groups r =
     field_text default_writer (names_text (user_names d) r.users)
     ++ fields_text default_writer (names_text (host_names d) r.hosts
-    ∷ asked_text (user_names d) r.targets ∷ groups_text (group_names groups) r.groups ∷ [])
+    ∷ asked_text (user_names d) (targets_of r.targets) ∷ groups_text (group_names groups) r.groups ∷ [])
 
 -- a policy as the table shows it: the paths of its files, and which notes its lines have
 pub record Source : Type 0 where

@@ -5,27 +5,29 @@ ghost use Rattle.std.specs.List.{Contains};
 ghost use Rattle.review_compare.specs.declared.ask_class.AskClass.{AskClass as TheAskClass};
 ghost use Rattle.review_compare.specs.declared.ask_class.AskedWith.{AskedWith as TheAskedWith};
 ghost use Rattle.review_compare.specs.declared.cell.Ask.{Ask as TheAsk};
+ghost use Rattle.review_compare.specs.declared.cell.AskedTargets.TheVariants as TheTargets;
 ghost use Rattle.review_compare.specs.Body.AskClasses as body;
 ghost use Rattle.review_compare.specs.Body.Classes.{AreSameBlocks};
 ghost use Rattle.review_compare.specs.Body.Progress.{AreListedFor, asking};
 ghost use Rattle.review_compare.specs.Body.SharedAsks.{HaveShared, IsShared};
 
 use crate::asks::{group_at, person_at};
-use crate::cell::{Ask, AskedGroups};
+use crate::cell::{Ask, AskedGroups, AskedTargets};
 use crate::host_class::are_same_blocks;
 use crate::pair::Pair;
 use crate::row::is_same_groups;
 use crate::shared::SharedAsks;
 use crate::spot::Listed;
+use crate::targets::{is_asked, push_targets};
 use std::alloc::{AllocError, Global};
 use sudo_match::{Machine, Person};
 use sudo_verdict::Asker;
 
-/// The targets of asks for the same groups: known users, or `None` alone.
+/// The targets of asks for the same groups: known users, or no one alone.
 #[derive(Drop)]
 pub(crate) struct AskedWith {
     pub(crate) groups: AskedGroups,
-    pub(crate) targets: Vec<Option<usize>>,
+    pub(crate) targets: Vec<AskedTargets>,
 }
 
 /// A class of asks of a user: the asks, and the blocks that list the user and whose runas allows them.
@@ -73,20 +75,12 @@ fn firsts_of(alloc: Global, pair: &Pair<'_>, listed: &Listed) -> Result<Listed, 
     Ok(Listed { old, new })
 }
 
-// Whether both are users, or neither is.
-fn are_alike(target: Option<usize>, other: Option<usize>) -> bool {
-    target.is_some() == other.is_some()
-}
-
 impl AskedWith {
     // Whether these groups are asked for, with users exactly if the target is one.
     fn takes(&self, target: Option<usize>, groups: AskedGroups) -> bool
         ensures { result ≡ true → self.now.groups ≡ groups }
     {
-        match self.targets.first() {
-            None => false,
-            Some(first) => are_alike(*first, target) && is_same_groups(self.groups, groups),
-        }
+        is_asked(&self.targets) == target.is_some() && is_same_groups(self.groups, groups)
     }
 }
 
@@ -109,10 +103,11 @@ fn asked_alone(
     target: Option<usize>,
     groups: AskedGroups,
 ) -> Result<AskedWith, AllocError>
-    ensures { IfOk result (λ w. (w.groups ≡ groups) × (w.targets.items ≡ target ∷ [])) }
+    ensures { IfOk result (λ w. (w.groups ≡ groups)
+        × (w.targets.items ≡ TheTargets.One target ∷ [])) }
 {
     let mut targets = Vec::new(alloc);
-    targets.push(target)?;
+    targets.push(AskedTargets::One(target))?;
     Ok(AskedWith { groups, targets })
 }
 
@@ -127,7 +122,7 @@ pub(crate) fn push_target(
 {
     match taking_index(asked, target, groups) {
         Some(index) => {
-            asked[index].targets.push(target)?;
+            push_targets(&mut asked[index].targets, AskedTargets::One(target))?;
         }
         None => {
             let alone = asked_alone(alloc, target, groups)?;

@@ -9,6 +9,20 @@ pub struct Ask {
     pub group: Option<usize>,
 }
 
+/// Which users are asked for.
+#[derive(Clone, Copy, Debug, PartialEq, Eq, PartialOrd, Ord)]
+pub enum AskedTargets {
+    /// No one, or the user at an index.
+    One(Option<usize>),
+    /// The users from an index on, up to, but without, the one at another index.
+    Range {
+        /// The first index.
+        first: usize,
+        /// The index behind the last.
+        end: usize,
+    },
+}
+
 /// Which groups are asked for with a target.
 #[derive(Clone, Copy, Debug, PartialEq, Eq)]
 pub enum AskedGroups {

@@ -209,7 +209,7 @@ fn rows_for_asked(
     ensures right { OnOk result (All (IsRight pair.entry.now) comparisons.new.items) }
 {
     let classes = classes_for(alloc, pair, user, person, scope, listed, asked, comparisons)?;
-    rows_of(alloc, pair, user, person, asked, classes)
+    rows_of(alloc, pair, user, person, asked, &classes)
 }
 
 // Returns what is found for the user on the hosts that are asked about. The machine is any known host.
@@ -421,8 +421,9 @@ fn compared_grants<'a>(
 /// policies say the same to every command, whichever noted conditions hold: a command that follows a note in its line may apply or
 /// not, and two equal commands that follow equal ones in their lines apply alike.
 ///
-/// Of cells that differ in the target alone, in the order of the known users, those of which the same is found are one row; and
-/// then rows that differ in the group alone, in the host alone, and in the user alone. Returns `AllocError` if allocation fails.
+/// Of cells that differ in the host alone, those of which the same is found are one row, with its hosts in order; then rows that differ in
+/// the target alone, with its targets in the order of the known users, in the group alone, and in the user alone. Returns `AllocError` if
+/// allocation fails.
 pub fn compared_policies(
     alloc: Global,
     old: &Checked,

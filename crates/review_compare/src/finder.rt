@@ -1,5 +1,5 @@
 //! Where rows stand that another may be merged with: hints, each of which is checked before it is used.
-use crate::cell::AskedGroups;
+use crate::cell::{AskedGroups, AskedTargets};
 use crate::compared::{Compared, Decider};
 use crate::row::{Dimension, Row};
 use crate::witness::Witness;
@@ -52,18 +52,30 @@ fn with_number(digest: usize, number: usize) -> usize {
     (digest ^ number).wrapping_mul(0x9E37_79B1).rotate_left(15)
 }
 
+// How many numbers of a list a digest takes in, at most.
+const TAKEN: usize = 16;
+
+// Returns the digest with numbers: of many the count and some of them, spread evenly.
 fn with_numbers(digest: usize, numbers: &[usize]) -> usize {
     let mut digest = with_number(digest, numbers.len());
-    for number in numbers {
-        digest = with_number(digest, *number);
+    let step = numbers.len() / TAKEN + 1;
+    let mut at: usize = 0;
+    for _ in 0..TAKEN {
+        if let Some(number) = numbers.get(at) {
+            digest = with_number(digest, *number);
+        }
+        at = at.wrapping_add(step);
     }
     digest
 }
 
-fn with_asked(digest: usize, numbers: &[Option<usize>]) -> usize {
-    let mut digest = with_number(digest, numbers.len());
-    for number in numbers {
-        digest = with_number(digest, number.unwrap_or(usize::MAX));
+fn with_targets(digest: usize, targets: &[AskedTargets]) -> usize {
+    let mut digest = with_number(digest, targets.len());
+    for each in targets {
+        digest = match each {
+            AskedTargets::One(number) => with_number(digest, number.unwrap_or(usize::MAX)),
+            AskedTargets::Range { first, end } => with_number(with_number(digest, *first), *end),
+        };
     }
     digest
 }
@@ -122,9 +134,11 @@ pub(crate) fn digest_of(row: &Row, dimension: Dimension) -> usize {
     let (users, hosts) = (row.users.as_slice(), row.hosts.as_slice());
     let (targets, groups) = (row.targets.as_slice(), row.groups.as_slice());
     match dimension {
-        Dimension::Users => with_groups(with_asked(with_numbers(digest, hosts), targets), groups),
-        Dimension::Hosts => with_groups(with_asked(with_numbers(digest, users), targets), groups),
+        Dimension::Users => with_groups(with_targets(with_numbers(digest, hosts), targets), groups),
         Dimension::Targets => with_groups(with_numbers(with_numbers(digest, users), hosts), groups),
-        Dimension::Groups => with_asked(with_numbers(with_numbers(digest, users), hosts), targets),
+        Dimension::Groups => with_targets(
+            with_numbers(with_numbers(digest, users), hosts),
+            targets,
+        ),
     }
 }

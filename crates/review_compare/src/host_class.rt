@@ -1,9 +1,11 @@
 //! Hosts on which the same blocks list a user: the comparison on one of them holds on each.
-ghost use Rattle.std.specs.Prelude.{◌≡◌, ◌<◌, ◌∷◌, [], ℕ, All, get_or, IfOk, IfSome, length, OnOk, true};
+ghost use Rattle.std.specs.Prelude.{◌≡◌, ◌<◌, ◌∷◌, [], All, get_or, IfOk, IfSome, IsPermutation, length, OnOk, true};
+ghost use Rattle.review_compare.specs.declared.host_class.FoundHosts.{FoundHosts as TheFoundHosts};
 ghost use Rattle.review_compare.specs.declared.host_class.HostClass.{HostClass as TheHostClass};
-ghost use Rattle.review_compare.specs.Body.AskClasses.{HaveAsk, IsAskClass};
+ghost use Rattle.review_compare.specs.Body.AskClasses.{AreAsked, HaveAsk, IsAskClass};
 ghost use Rattle.review_compare.specs.Body.Classes as of_hosts;
 ghost use Rattle.review_compare.specs.Body.Comparisons.{IsRight};
+ghost use Rattle.review_compare.specs.Body.Merged.{IsOnAmong};
 ghost use Rattle.review_compare.specs.Body.Progress as body;
 
 use crate::alike::is_same_found;
@@ -12,8 +14,8 @@ use crate::compared::Compared;
 use crate::comparison::{Comparison, are_same_indices};
 use crate::finder::Finder;
 use crate::pair::Pair;
-use crate::row::{BUCKETS, Dimension, Row, absorb_all, ordered};
-use crate::spot::{Listed, Spot, founds_at, rows_on};
+use crate::row::{BUCKETS, Row, merged};
+use crate::spot::{Listed, Spot, add_class, founds_at};
 use std::alloc::{AllocError, Global};
 use sudo_match::Person;
 
@@ -60,7 +62,7 @@ impl HostClass<'_> {
 }
 
 // Compares the policies at the spot, and makes its host the first of a class.
-fn add_class<'a>(
+fn begin_class<'a>(
     alloc: Global,
     pair: &Pair<'_>,
     spot: Spot<'a>,
@@ -142,90 +144,160 @@ pub(crate) fn add_spot<'a>(
 {
     match class_index(classes, &listed) {
         Some(index) => add_moved(pair, spot, &listed, asked, index, classes),
-        None => add_class(alloc, pair, spot, listed, asked, classes, comparisons),
+        None => begin_class(alloc, pair, spot, listed, asked, classes, comparisons),
     }
 }
 
-// Whether the same is found for each class of asks.
-fn are_same_founds(founds: &[Compared], others: &[Compared]) -> bool
-    ensures { result ≡ true → founds.now ≡ others.now }
-{
-    let mut own = founds;
-    let mut left = others;
-    while let [found, rest @ ..] = own {
-        let [other, more @ ..] = left else {
-            return false;
-        };
-        if !is_same_found(found, other) {
-            return false;
-        }
-        own = rest;
-        left = more;
-    }
-    left.is_empty()
+// Hosts on which this is found for a class of asks.
+#[derive(Drop)]
+struct FoundHosts<'a> {
+    found: &'a Compared,
+    hosts: Vec<usize>,
 }
 
-// Returns the index of the class for which the same is found, if there is one.
-fn found_index(classes: &[HostClass<'_>], founds: &[Compared]) -> Option<usize>
-    ensures { IfSome result (λ i. (i < length classes.now) × ((d : TheHostClass)
-        → (get_or classes.now i d).founds.items ≡ founds.now)) }
+// Returns the index of the hosts on which this is found, if there are any.
+fn found_index(hosts: &[FoundHosts<'_>], found: &Compared) -> Option<usize>
+    ensures { IfSome result (λ i. (i < length hosts.now) × ((d : TheFoundHosts)
+        → (get_or hosts.now i d).found.now ≡ found.now)) }
 {
-    for index in 0..classes.len() {
-        if are_same_founds(&classes[index].founds, founds) {
+    for index in 0..hosts.len() {
+        if is_same_found(hosts[index].found, found) {
             return Some(index);
         }
     }
     None
 }
 
-// Adds the hosts of a class to a class for which the same is found; otherwise appends the class.
-fn join_class<'a>(
-    pair: &Pair<'_>,
-    user: usize,
-    person: &Person,
-    asked: &[AskClass],
-    class: HostClass<'a>,
-    classes: &mut Vec<HostClass<'a>>,
+// Adds hosts on which this is found.
+fn add_hosts<'a>(
+    alloc: Global,
+    found: &'a Compared,
+    hosts: &[usize],
+    groups: &mut Vec<FoundHosts<'a>>,
 ) -> Result<(), AllocError>
-    ensures added { OnOk result (of_hosts.AddsHosts classes.old.items class.entry.hosts.items
-        classes.new.items) }
-    ensures classes { OnOk result (of_hosts.IsClass pair.now user person.now asked.now class.entry
-        → All (of_hosts.IsClass pair.now user person.now asked.now) classes.old.items
-        → All (of_hosts.IsClass pair.now user person.now asked.now) classes.new.items) }
+    ensures { OnOk result (of_hosts.AddsFoundOn groups.old.items found.entry.now hosts.now
+        groups.new.items) }
 {
-    match found_index(classes, &class.founds) {
-        Some(index) => classes[index].add(&class.hosts),
-        None => {
-            classes.push(class)?;
-            Ok(())
+    match found_index(groups, found) {
+        Some(index) => {
+            groups[index].hosts.extend_from_slice(hosts)?;
         }
+        None => {
+            let hosts = Vec::from_slice(alloc, hosts)?;
+            groups.push(FoundHosts { found, hosts })?;
+        }
+    }
+    Ok(())
+}
+
+// Adds the hosts of a class by what is found there for the class of asks at an index, if there is one.
+#[tactic(auto, using(crate::proofs::FoundLemmas::class_without))]
+fn add_class_hosts<'a>(
+    alloc: Global,
+    class: &'a HostClass<'_>,
+    index: usize,
+    groups: &mut Vec<FoundHosts<'a>>,
+) -> Result<(), AllocError>
+    ensures { OnOk result (of_hosts.AddsClass groups.old.items class.entry.now index
+        groups.new.items) }
+{
+    match class.founds.get(index) {
+        Some(found) => add_hosts(alloc, found, &class.hosts, groups),
+        None => Ok(()),
     }
 }
 
-// Returns the classes, those for which the same is found as one.
-fn joined<'a>(
+// Returns the hosts of classes by what is found for the class of asks at an index.
+fn hosts_by_found<'a>(
+    alloc: Global,
+    classes: &'a [HostClass<'_>],
+    index: usize,
+) -> Result<Vec<FoundHosts<'a>>, AllocError>
+    ensures { IfOk result (λ groups. of_hosts.AreFoundOn classes.entry.now index groups.items) }
+{
+    let mut groups = Vec::new(alloc);
+    for class in classes {
+        add_class_hosts(alloc, class, index, &mut groups)?;
+    }
+    Ok(groups)
+}
+
+// Returns hosts in order.
+fn in_order(alloc: Global, hosts: &[usize]) -> Result<Vec<usize>, AllocError>
+    ensures { IfOk result (λ ordered. IsPermutation hosts.now ordered.items) }
+{
+    let mut ordered = Vec::from_slice(alloc, hosts)?;
+    ordered.sort_unstable();
+    Ok(ordered)
+}
+
+// Adds the rows for the hosts on which the same is found for a class of asks.
+fn add_found_hosts(
+    alloc: Global,
+    pair: &Pair<'_>,
+    user: usize,
+    asks: &AskClass,
+    group: &FoundHosts<'_>,
+    rows: &mut Vec<Row>,
+    finder: &mut Finder,
+) -> Result<(), AllocError>
+    requires { of_hosts.AreRightOn pair.now user asks.now group.now }
+    ensures { OnOk result (body.Progress pair.entry.now rows.old.items rows.new.items
+        (IsOnAmong user group.entry.now.hosts.items
+        (AreAsked (body.asking pair.entry.now) asks.entry.now.asked.items))) }
+{
+    let hosts = in_order(alloc, &group.hosts)?;
+    add_class(alloc, pair, user, &hosts, asks, group.found, rows, finder)
+}
+
+// Adds the rows for hosts by what is found there for a class of asks.
+fn add_groups(
+    alloc: Global,
+    pair: &Pair<'_>,
+    user: usize,
+    asks: &AskClass,
+    groups: &[FoundHosts<'_>],
+    rows: &mut Vec<Row>,
+    finder: &mut Finder,
+) -> Result<(), AllocError>
+    requires { All (of_hosts.AreRightOn pair.now user asks.now) groups.now }
+    ensures { OnOk result (body.Progress pair.entry.now rows.old.items rows.new.items
+        (of_hosts.IsOnFound user groups.entry.now
+        (AreAsked (body.asking pair.entry.now) asks.entry.now.asked.items))) }
+{
+    for group in groups {
+        add_found_hosts(alloc, pair, user, asks, group, rows, finder)?;
+    }
+    Ok(())
+}
+
+// Adds the rows for the findings for a class of asks, the one at the index, on the hosts of classes.
+fn add_asks(
     alloc: Global,
     pair: &Pair<'_>,
     user: usize,
     person: &Person,
     asked: &[AskClass],
-    classes: Vec<HostClass<'a>>,
-) -> Result<Vec<HostClass<'a>>, AllocError>
-    ensures all { IfOk result (λ joined. (host : ℕ) → of_hosts.HaveHost classes.entry.items host
-        → of_hosts.HaveHost joined.items host) }
-    ensures classes { IfOk result (λ joined. All (of_hosts.IsClass pair.now user person.now
-        asked.now) classes.entry.items
-        → All (of_hosts.IsClass pair.now user person.now asked.now) joined.items) }
+    index: usize,
+    asks: &AskClass,
+    classes: &[HostClass<'_>],
+    rows: &mut Vec<Row>,
+    finder: &mut Finder,
+) -> Result<(), AllocError>
+    requires within { index < length asked.now }
+    requires asks { asks.now ≡ get_or asked.now index asks.now }
+    requires classes { All (of_hosts.IsClass pair.now user person.now asked.now) classes.now }
+    ensures { OnOk result (body.Progress pair.entry.now rows.old.items rows.new.items
+        (of_hosts.IsOnClasses user classes.entry.now
+        (AreAsked (body.asking pair.entry.now) asks.entry.now.asked.items))) }
 {
-    let mut joined = Vec::new(alloc);
-    for class in classes {
-        join_class(pair, user, person, asked, class, &mut joined)?;
-    }
-    Ok(joined)
+    let groups = hosts_by_found(alloc, classes, index)?;
+    add_groups(alloc, pair, user, asks, &groups, rows, finder)
 }
 
-// Returns the rows for the findings on the hosts of classes.
-fn rows_of_each(
+/// Returns the rows of the comparison on the hosts of classes: those that differ in the host alone are one, with its hosts in order; and
+/// then those that differ in the target alone, and in the group alone. Returns `AllocError` if allocation fails.
+pub(crate) fn rows_of(
     alloc: Global,
     pair: &Pair<'_>,
     user: usize,
@@ -239,28 +311,19 @@ fn rows_of_each(
 {
     let mut finder = Finder::new(alloc, BUCKETS)?;
     let mut rows = Vec::new(alloc);
-    for class in classes {
-        let more = rows_on(alloc, pair, user, &class.hosts, asked, &class.founds)?;
-        absorb_all(&mut rows, more, Dimension::Hosts, &mut finder)?;
+    for index in 0..asked.len() {
+        add_asks(
+            alloc,
+            pair,
+            user,
+            person,
+            asked,
+            index,
+            &asked[index],
+            classes,
+            &mut rows,
+            &mut finder,
+        )?;
     }
-    Ok(rows)
-}
-
-/// Returns the rows of the comparison on the hosts of classes: those that differ in the host alone are one, and the hosts of
-/// each are in order. Returns `AllocError` if allocation fails.
-pub(crate) fn rows_of(
-    alloc: Global,
-    pair: &Pair<'_>,
-    user: usize,
-    person: &Person,
-    asked: &[AskClass],
-    classes: Vec<HostClass<'_>>,
-) -> Result<Vec<Row>, AllocError>
-    requires { All (of_hosts.IsClass pair.now user person.now asked.now) classes.items }
-    ensures { IfOk result (λ rows. body.Progress pair.entry.now [] rows.items
-        (of_hosts.IsOnClasses user classes.entry.items (HaveAsk (body.asking pair.entry.now) asked.entry.now))) }
-{
-    let joined = joined(alloc, pair, user, person, asked, classes)?;
-    let rows = rows_of_each(alloc, pair, user, person, asked, &joined)?;
-    ordered(alloc, rows)
+    merged(alloc, rows)
 }

@@ -38,6 +38,7 @@ mod shape;
 mod shared;
 mod side;
 mod spot;
+mod targets;
 mod text;
 mod trials;
 mod walk;
@@ -45,7 +46,7 @@ mod whoever;
 mod witness;
 
 pub use answer::{Answer, answer_between};
-pub use cell::{Ask, AskedGroups, Cell};
+pub use cell::{Ask, AskedGroups, AskedTargets, Cell};
 pub use compared::{Compared, Decider};
 pub use differences::compared_policies;
 pub use laws::{

@@ -6,9 +6,10 @@ ghost use Rattle.review_compare.specs.Body.Merged as body;
 
 use crate::alike::is_same_found;
 use crate::ask_class::AskedWith;
-use crate::cell::AskedGroups;
+use crate::cell::{AskedGroups, AskedTargets};
 use crate::compared::Compared;
 use crate::finder::{Finder, digest_of};
+use crate::targets::{are_same_targets, in_order, is_asked};
 use std::alloc::{AllocError, Global};
 use sudo_text::Seq;
 
@@ -19,8 +20,8 @@ pub struct Row {
     pub users: Seq<usize>,
     /// The indices of the hosts.
     pub hosts: Seq<usize>,
-    /// The indices of the users that are asked for; `None` if no one is.
-    pub targets: Seq<Option<usize>>,
+    /// Which users are asked for, or that no one is.
+    pub targets: Seq<AskedTargets>,
     /// Which groups are asked for.
     pub groups: Seq<AskedGroups>,
     /// What is found.
@@ -34,7 +35,6 @@ pub(crate) const BUCKETS: usize = 256;
 #[derive(Clone, Copy, Debug, PartialEq, Eq)]
 pub(crate) enum Dimension {
     Users,
-    Hosts,
     Targets,
     Groups,
 }
@@ -56,29 +56,10 @@ pub(crate) fn is_same_number(number: Option<usize>, other: Option<usize>) -> boo
     }
 }
 
-// Whether the lists have the same numbers.
-fn have_same_numbers(numbers: &[Option<usize>], others: &[Option<usize>]) -> bool
-    ensures { result ≡ body.same_numbers numbers.now others.now }
+fn are_same_asked(targets: &Seq<AskedTargets>, others: &Seq<AskedTargets>) -> bool
+    ensures { result ≡ true → targets.now ≡ others.now }
 {
-    let mut own = numbers;
-    let mut left = others;
-    while let Some((number, rest)) = own.split_first() {
-        let Some((other, more)) = left.split_first() else {
-            return false;
-        };
-        if !is_same_number(*number, *other) {
-            return false;
-        }
-        own = rest;
-        left = more;
-    }
-    left.is_empty()
-}
-
-fn are_same_asked(numbers: &Seq<Option<usize>>, others: &Seq<Option<usize>>) -> bool
-    ensures { result ≡ true → numbers.now ≡ others.now }
-{
-    numbers.len() == others.len() && have_same_numbers(numbers.as_slice(), others.as_slice())
+    are_same_targets(targets.as_slice(), others.as_slice())
 }
 
 /// Whether the same groups are asked for.
@@ -147,7 +128,6 @@ impl Row {
     {
         match dimension {
             Dimension::Users => self.is_like_but_users(other),
-            Dimension::Hosts => self.is_like_but_hosts(other),
             Dimension::Targets => self.is_like_but_targets(other),
             Dimension::Groups => self.is_like_but_groups(other),
         }
@@ -168,25 +148,10 @@ impl Row {
         is_same_found(&self.found, &other.found)
     }
 
-    fn is_like_but_hosts(&self, other: &Row) -> bool
-        ensures { result ≡ true → body.AreLike Dimension.Hosts self.now other.now }
-    {
-        if !are_same_groups(&self.groups, &other.groups) {
-            return false;
-        }
-        if !are_same(&self.users, &other.users) {
-            return false;
-        }
-        if !are_same_asked(&self.targets, &other.targets) {
-            return false;
-        }
-        is_same_found(&self.found, &other.found)
-    }
-
     fn is_like_but_targets(&self, other: &Row) -> bool
         ensures { result ≡ true → body.AreLike Dimension.Targets self.now other.now }
     {
-        if is_asked(&self.targets) != is_asked(&other.targets) {
+        if is_asked(self.targets.as_slice()) != is_asked(other.targets.as_slice()) {
             return false;
         }
         if !are_same_groups(&self.groups, &other.groups) {
@@ -226,7 +191,6 @@ impl Row {
     {
         match dimension {
             Dimension::Users => self.users.extend_from_slice(other.users.as_slice()),
-            Dimension::Hosts => self.hosts.extend_from_slice(other.hosts.as_slice()),
             Dimension::Targets => self.targets.extend_from_slice(other.targets.as_slice()),
             Dimension::Groups => self.groups.extend_from_slice(other.groups.as_slice()),
         }
@@ -293,61 +257,9 @@ pub(crate) fn absorb_all(
     Ok(())
 }
 
-// Whether each number is below the next one.
-fn ascend(numbers: &[usize]) -> bool {
-    let mut left = numbers;
-    while let [first, rest @ ..] = left {
-        if let [second, ..] = rest {
-            if *first >= *second {
-                return false;
-            }
-        }
-        left = rest;
-    }
-    true
-}
-
-// Returns the numbers in order. Mostly they are.
-fn in_order(numbers: Seq<usize>) -> Seq<usize>
-    ensures { IsPermutation numbers result }
-{
-    if ascend(numbers.as_slice()) {
-        return numbers;
-    }
-    let mut numbers = numbers.into_vec();
-    numbers.sort_unstable();
-    Seq::from_vec(numbers)
-}
-
-// Whether each target is before the next one.
-fn targets_ascend(targets: &[Option<usize>]) -> bool {
-    let mut left = targets;
-    while let [first, rest @ ..] = left {
-        if let [second, ..] = rest {
-            if *first >= *second {
-                return false;
-            }
-        }
-        left = rest;
-    }
-    true
-}
-
-// Returns the targets in order. Mostly they are.
-fn targets_in_order(targets: Seq<Option<usize>>) -> Seq<Option<usize>>
-    ensures { IsPermutation targets result }
-{
-    if targets_ascend(targets.as_slice()) {
-        return targets;
-    }
-    let mut targets = targets.into_vec();
-    targets.sort_unstable();
-    Seq::from_vec(targets)
-}
-
-// Returns the row with its hosts and its targets in order.
-fn ordered_row(row: Row) -> Row
-    ensures { body.IsOrdered row result }
+// Returns the row with its targets in order.
+fn ordered_row(alloc: Global, row: Row) -> Result<Row, AllocError>
+    ensures { IfOk result (body.IsOrdered row) }
 {
     let Row {
         users,
@@ -356,22 +268,22 @@ fn ordered_row(row: Row) -> Row
         groups,
         found,
     } = row;
-    Row {
+    Ok(Row {
         users,
-        hosts: in_order(hosts),
-        targets: targets_in_order(targets),
+        hosts,
+        targets: in_order(alloc, targets)?,
         groups,
         found,
-    }
+    })
 }
 
-/// Returns the rows, the hosts and the targets of each in order. Returns `AllocError` if allocation fails.
-pub(crate) fn ordered(alloc: Global, rows: Vec<Row>) -> Result<Vec<Row>, AllocError>
+// Returns the rows, the targets of each in order.
+fn ordered(alloc: Global, rows: Vec<Row>) -> Result<Vec<Row>, AllocError>
     ensures { IfOk result (λ ordered. body.AreOrdered rows.items ordered.items) }
 {
     let mut ordered = Vec::new(alloc);
     for row in rows {
-        ordered.push(ordered_row(row))?;
+        ordered.push(ordered_row(alloc, row)?)?;
     }
     Ok(ordered)
 }
@@ -388,8 +300,8 @@ fn grouped(alloc: Global, rows: Vec<Row>) -> Result<Vec<Row>, AllocError>
     Ok(grouped)
 }
 
-/// Returns the rows, the hosts and the targets of each in order, and those that differ in the group alone as one. Returns
-/// `AllocError` if allocation fails.
+/// Returns the rows, the targets of each in order, and those that differ in the group alone as one. Returns `AllocError` if allocation
+/// fails.
 pub(crate) fn merged(alloc: Global, rows: Vec<Row>) -> Result<Vec<Row>, AllocError>
     ensures { IfOk result (λ merged. body.AreMerged rows.items merged.items) }
 {
@@ -403,13 +315,5 @@ fn names_group(groups: &Seq<AskedGroups>) -> bool {
         [] => false,
         [AskedGroups::One(first), ..] => first.is_some(),
         _ => true,
-    }
-}
-
-// Whether the first of them is asked for.
-fn is_asked(numbers: &Seq<Option<usize>>) -> bool {
-    match numbers.as_slice() {
-        [Some(_), ..] => true,
-        _ => false,
     }
 }

@@ -14,7 +14,7 @@ use crate::comparison::{Comparison, found_of};
 use crate::copied::copied;
 use crate::finder::Finder;
 use crate::pair::Pair;
-use crate::row::{BUCKETS, Dimension, Row, absorb, merged};
+use crate::row::{Dimension, Row, absorb};
 use std::alloc::{AllocError, Global};
 use sudo_match::{Machine, Person};
 
@@ -134,8 +134,9 @@ fn add_each(
     Ok(())
 }
 
-// Adds the outcome for a class of asks, unless both policies say the same.
-fn add_class(
+/// Adds the outcome for a class of asks on the hosts for the user, unless both policies say the same. Returns `AllocError` if allocation
+/// fails.
+pub(crate) fn add_class(
     alloc: Global,
     pair: &Pair<'_>,
     user: usize,
@@ -155,36 +156,4 @@ fn add_class(
         Compared::Same => Ok(()),
         found => add_each(alloc, user, hosts, &class.asked, found, rows, finder),
     }
-}
-
-/// Returns the rows for the findings on the hosts for the user, one class of asks after the other. Returns `AllocError` if
-/// allocation fails.
-pub(crate) fn rows_on(
-    alloc: Global,
-    pair: &Pair<'_>,
-    user: usize,
-    hosts: &[usize],
-    classes: &[AskClass],
-    founds: &[Compared],
-) -> Result<Vec<Row>, AllocError>
-    requires { AreRightIn pair.now user hosts.now classes.now founds.now }
-    ensures { IfOk result (λ rows. body.Progress pair.entry.now [] rows.items
-        (IsOnAmong user hosts.entry.now
-        (HaveAsk (body.asking pair.entry.now) classes.entry.now))) }
-{
-    let mut finder = Finder::new(alloc, BUCKETS)?;
-    let mut rows = Vec::new(alloc);
-    for index in 0..classes.len() {
-        add_class(
-            alloc,
-            pair,
-            user,
-            hosts,
-            &classes[index],
-            &founds[index],
-            &mut rows,
-            &mut finder,
-        )?;
-    }
-    merged(alloc, rows)
 }

@@ -9,6 +9,7 @@ ghost use Rattle.review_compare.specs.Body.Lines as body;
 use crate::cell::AskedGroups;
 use crate::compared::{Compared, Decider};
 use crate::row::Row;
+use crate::targets::targets_of;
 use crate::witness::Witness;
 use audit_files::{push_field, push_next_field, set_place, set_tags, verdict_word};
 use review_grants::{Marks, NotedPlaces, UNMARKED};
@@ -344,7 +345,8 @@ fn row_head(alloc: Global, names: &Names, row: &Row) -> Result<Vec<u8>, AllocErr
     let users = names_text(alloc, &names.users, row.users.as_slice())?;
     push_field(&mut head, &users)?;
     let hosts = names_text(alloc, &names.hosts, row.hosts.as_slice())?;
-    let targets = asked_text(alloc, &names.users, row.targets.as_slice())?;
+    let asked = targets_of(alloc, row.targets.as_slice())?;
+    let targets = asked_text(alloc, &names.users, &asked)?;
     let groups = groups_text(alloc, &names.groups, row.groups.as_slice())?;
     push_three(&mut head, &hosts, &targets, &groups)?;
     Ok(head)

@@ -8,10 +8,11 @@ use Rattle.review_compare.specs.declared.ask_class.AskClass.{AskClass}
 use Rattle.review_compare.specs.declared.ask_class.AskedWith.{AskedWith}
 use Rattle.review_compare.specs.declared.cell.Ask.{Ask}
 use Rattle.review_compare.specs.declared.cell.AskedGroups.{AskedGroups}
+use Rattle.review_compare.specs.declared.cell.AskedTargets.{AskedTargets}
 use Rattle.review_compare.specs.declared.pair.Pair.{Pair}
 use Rattle.review_compare.specs.declared.spot.Listed.{Listed}
 use Rattle.review_compare.specs.Cells.{Decider}
-use Rattle.review_compare.specs.Differences.{Asking}
+use Rattle.review_compare.specs.Differences.{Asking, targets_of}
 use Rattle.review_compare.specs.Body.Chosen.{chosen, host_at}
 use Rattle.review_compare.specs.Body.Near.{changed_rows, near_deciders, near_of}
 use Rattle.review_compare.specs.Body.Progress.{ask_of, asking}
@@ -41,10 +42,10 @@ pub record Decide (p : Pair) (u : Person) (a : Ask) (l : Listed) : Type 0 where
   pub new : (m : Machine) → kept_new p (ask_of p u m a) ≡ on_new p m l
 
 abbrev pub IsAskedWith : Asking → AskedWith → Ask → Type 0
-IsAskedWith asks w a = (asks a.target a.group w.groups ≡ true) × Contains w.targets.items a.target
+IsAskedWith asks w a = (asks a.target a.group w.groups ≡ true) × Contains (targets_of w.targets.items) a.target
 
 -- the targets with their groups, as lists
-abbrev pub plain : AskedWith → AskedGroups × List (Option ℕ)
+abbrev pub plain : AskedWith → AskedGroups × List AskedTargets
 plain w = (w.groups, w.targets.items)
 
 -- the ask is among them

@@ -1,11 +1,12 @@
 -- Classes of hosts; only proofs of bodies need these definitions.
-use Rattle.std.specs.Prelude.{◌≡◌, ◌⊎◌, ◌<◌, ℕ, true, List, [], ◌∷◌, ◌++◌, get_or, length, Option, Some, None}
+use Rattle.std.specs.Prelude.{◌≡◌, ◌⊎◌, ◌<◌, ℕ, true, List, [], ◌∷◌, ◌++◌, get_or, length, slice_get, Option, Some, None}
 use Rattle.sudo_match.specs.declared.people.Person.{Person}
 use Rattle.sudo_verdict.specs.Questions.{Question}
 use Rattle.review_compare.specs.declared.ask_class.AskClass.{AskClass}
 use Rattle.review_compare.specs.declared.cell.Ask.{Ask}
 use Rattle.review_compare.specs.declared.cell.Cell.{Cell}
 use Rattle.review_compare.specs.declared.compared.Compared.{Compared}
+use Rattle.review_compare.specs.declared.host_class.FoundHosts.{FoundHosts}
 use Rattle.review_compare.specs.declared.host_class.HostClass.{HostClass}
 use Rattle.review_compare.specs.declared.pair.Pair.{Pair}
 use Rattle.review_compare.specs.declared.spot.Listed.{Listed}
@@ -70,6 +71,42 @@ IsClassed p ks c =
 pub record AddsCells (p : Pair) (old : List HostClass) (cells : Cell → Type 0) (new : List HostClass) : Type 0 where
   pub kept : (host : ℕ) → HaveHost old host → HaveHost new host
   pub added : (c : Cell) → cells c → IsClassed p new c
+
+-- a class has the host, and this is found there for the class of asks at an index
+abbrev pub FoundOn : List HostClass → ℕ → Compared → ℕ → Type 0
+FoundOn [] n f host = ⊥
+FoundOn (k ∷ ks) n f host = ((is_among k.hosts.items host ≡ true) × (slice_get k.founds.items n ≡ Some f)) ⊎ FoundOn ks n f host
+
+-- this is found on the host
+abbrev pub IsFoundOn : List FoundHosts → Compared → ℕ → Type 0
+IsFoundOn [] f host = ⊥
+IsFoundOn (g ∷ gs) f host = ((g.found.now ≡ f) × (is_among g.hosts.items host ≡ true)) ⊎ IsFoundOn gs f host
+
+-- with further hosts on which this is found
+pub record AddsFoundOn (old : List FoundHosts) (f : Compared) (hosts : List ℕ) (new : List FoundHosts) : Type 0 where
+  pub kept : (g : Compared) (host : ℕ) → IsFoundOn old g host → IsFoundOn new g host
+  pub added : (host : ℕ) → is_among hosts host ≡ true → IsFoundOn new f host
+  pub only : (g : Compared) (host : ℕ) → IsFoundOn new g host → IsFoundOn old g host ⊎ ((f ≡ g) × (is_among hosts host ≡ true))
+
+-- with the hosts of a class on which something is found for the class of asks at an index
+pub record AddsClass (old : List FoundHosts) (k : HostClass) (n : ℕ) (new : List FoundHosts) : Type 0 where
+  pub kept : (f : Compared) (host : ℕ) → IsFoundOn old f host → IsFoundOn new f host
+  pub added : (f : Compared) (host : ℕ) → is_among k.hosts.items host ≡ true → slice_get k.founds.items n ≡ Some f → IsFoundOn new f host
+  pub only : (f : Compared) (host : ℕ) → IsFoundOn new f host →
+      IsFoundOn old f host ⊎ ((is_among k.hosts.items host ≡ true) × (slice_get k.founds.items n ≡ Some f))
+
+-- the hosts of classes by what is found for the class of asks at an index
+pub record AreFoundOn (ks : List HostClass) (n : ℕ) (gs : List FoundHosts) : Type 0 where
+  pub all : (f : Compared) (host : ℕ) → FoundOn ks n f host → IsFoundOn gs f host
+  pub only : (f : Compared) (host : ℕ) → IsFoundOn gs f host → FoundOn ks n f host
+
+-- what is found on these hosts is right for the asks of the class
+abbrev pub AreRightOn : Pair → ℕ → AskClass → FoundHosts → Type 0
+AreRightOn p user k g = IsRightIn p user g.hosts.items (AreAsked (asking p) k.asked.items) g.found.now
+
+-- a cell of the user on one of the hosts, with one of these asks
+abbrev pub IsOnFound : ℕ → List FoundHosts → (Ask → Type 0) → Cell → Type 0
+IsOnFound user gs asked c = (c.user ≡ user) × ((f : Compared) × IsFoundOn gs f c.host) × asked c.ask
 
 -- a cell of the user on a host of a class, with one of these asks
 abbrev pub IsOnClasses : ℕ → List HostClass → (Ask → Type 0) → Cell → Type 0

@@ -6,6 +6,7 @@ use Rattle.sudo_match.specs.KnownRows.{KnownRows}
 use Rattle.review_compare.specs.declared.row.Row.{Row}
 use Rattle.review_grants.specs.Depends.{marks_in}
 use Rattle.review_compare.specs.Body.Merged.{is_among}
+use Rattle.review_compare.specs.Differences.{targets_of}
 use Rattle.review_compare.specs.declared.text.Names.{Names}
 use Rattle.review_compare.specs.declared.text.Shown.{Shown}
 use Rattle.review_compare.specs.Table.{Source, asked_text, found_lines, group_names, groups_text, host_names, names_text, user_names}
@@ -34,7 +35,7 @@ abbrev pub head_of : Names → Row → List ℕ
 head_of names r =
     field_text default_writer (names_text (map (λ v. v.items) names.users.items) r.users)
     ++ fields_text default_writer (names_text (map (λ v. v.items) names.hosts.items) r.hosts
-    ∷ asked_text (map (λ v. v.items) names.users.items) r.targets
+    ∷ asked_text (map (λ v. v.items) names.users.items) (targets_of r.targets)
     ∷ groups_text (map (λ v. v.items) names.groups.items) r.groups ∷ [])
 
 -- the records of a row

@@ -1,29 +1,28 @@
 -- Rows that become one; only proofs of bodies need these definitions.
-use Rattle.std.specs.Prelude.{IsPermutation, ◌≡◌, ◌⊎◌, ℕ, Bool, true, false, ◌&&◌, ◌||◌, ◌==◌, List, [], ◌∷◌, Option}
+use Rattle.std.specs.Prelude.{◌≡◌, ◌⊎◌, ℕ, Bool, true, ◌&&◌, ◌||◌, ◌==◌, List, [], ◌∷◌, Option}
 use Rattle.std.specs.List.{list_any}
 use Rattle.review_compare.specs.declared.ask_class.AskedWith.{AskedWith}
 use Rattle.review_compare.specs.declared.cell.Ask.{Ask}
+use Rattle.review_compare.specs.declared.cell.AskedTargets.{AskedTargets}
 use Rattle.review_compare.specs.declared.cell.Cell.{Cell}
 use Rattle.review_compare.specs.declared.compared.Compared.{Compared}
 use Rattle.review_compare.specs.declared.row.Dimension.{Dimension}
 use Rattle.review_compare.specs.declared.row.Dimension.TheVariants as dimension
 use Rattle.review_compare.specs.declared.row.Row.{Row}
-use Rattle.review_compare.specs.Differences.{Asking, Finds, has_cell, same_number}
+use Rattle.review_compare.specs.Differences.{Asking, Finds, has_cell, same_number, targets_of}
 use Rattle.review_compare.specs.Body.Comparisons.{IsCopy}
 
 abbrev pub same_cell : Cell → Cell → Bool
 same_cell c d =
     ((c.user == d.user) && (c.host == d.host)) && (same_number d.ask.target c.ask.target && same_number d.ask.group c.ask.group)
 
-abbrev pub same_numbers : List (Option ℕ) → List (Option ℕ) → Bool
-same_numbers [] [] = true
-same_numbers (a ∷ xs) (b ∷ ys) = same_number a b && same_numbers xs ys
-same_numbers _ _ = false
+-- the target is one of these
+abbrev pub has_target : List AskedTargets → Option ℕ → Bool
+has_target targets t = list_any (same_number t) (targets_of targets)
 
 -- the rows differ in this alone
 abbrev pub AreLike : Dimension → Row → Row → Type 0
 AreLike dimension.Users r s = (r.hosts ≡ s.hosts) × (r.targets ≡ s.targets) × (r.groups ≡ s.groups) × (r.found ≡ s.found)
-AreLike dimension.Hosts r s = (r.users ≡ s.users) × (r.targets ≡ s.targets) × (r.groups ≡ s.groups) × (r.found ≡ s.found)
 AreLike dimension.Targets r s = (r.users ≡ s.users) × (r.hosts ≡ s.hosts) × (r.groups ≡ s.groups) × (r.found ≡ s.found)
 AreLike dimension.Groups r s = (r.users ≡ s.users) × (r.hosts ≡ s.hosts) × (r.targets ≡ s.targets) × (r.found ≡ s.found)
 
@@ -56,15 +55,15 @@ pub record AddsFound (asks : Asking) (old : List Row) (user : ℕ) (hosts : List
   pub added : (c : Cell) → IsOnAmong user hosts asked c → (f : Compared) × Finds asks new c f
   pub only : (c : Cell) (f : Compared) → Finds asks new c f → Finds asks old c f ⊎ (IsOnAmong user hosts asked c × IsCopy found f)
 
--- the row with its hosts and its targets in another order
+-- the row with its targets in another order
 pub record IsOrdered (r s : Row) : Type 0 where
   pub users : s.users ≡ r.users
-  pub hosts : IsPermutation r.hosts s.hosts
-  pub targets : IsPermutation r.targets s.targets
+  pub hosts : s.hosts ≡ r.hosts
+  pub targets : (t : Option ℕ) → has_target s.targets t ≡ has_target r.targets t
   pub groups : s.groups ≡ r.groups
   pub found : s.found ≡ r.found
 
--- each of the rows with its hosts and its targets in another order
+-- each of the rows with its targets in another order
 abbrev pub AreOrdered : List Row → List Row → Type 0
 AreOrdered [] [] = Unit {0}
 AreOrdered (r ∷ rows) (s ∷ ordered) = IsOrdered r s × AreOrdered rows ordered
@@ -83,7 +82,7 @@ pub record AbsorbsAll (old more new : List Row) : Type 0 where
   pub added : (asks : Asking) (c : Cell) (f : Compared) → Finds asks more c f → Finds asks new c f
   pub only : (asks : Asking) (c : Cell) (f : Compared) → Finds asks new c f → Finds asks old c f ⊎ Finds asks more c f
 
--- the rows with their hosts and targets in another order, and then some of them as one
+-- the rows with their targets in another order, and then some of them as one
 pub record AreMerged (rows new : List Row) : Type 0 where
   pub ordered : List Row
   pub are_ordered : AreOrdered rows ordered

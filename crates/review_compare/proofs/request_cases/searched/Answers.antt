@@ -1,4 +1,3 @@
-use Rattle.std.proofs.Common.{◌∙◌, sym}
 use Rattle.review_compare.specs.Body.Asked.{asked_by, shown_cases}
 use Rattle.review_compare.proofs.CaseSteps.{if-ok, searched-cases}
 use Rattle.review_compare.proofs.request_cases.searched.Goals as goal

@@ -7,4 +7,4 @@ use Rattle.review_compare.proofs.row.ordered.Goals as goal
 pub loop-row-preserved : goal.loop-row-preserved
 loop-row-preserved c =
     subst (λ (rows : List Row). AreOrdered (c.loop-row.yielded ++ c.in-Some.row ∷ []) rows) (sym c.in_ok-push.ensures.items)
-    (ordered-more c.loop-row.yielded c.loop-row.ordered.items c.in-Some.row _ c.loop-row.invariant c.ordered_row.ensures)
+    (ordered-more c.loop-row.yielded c.loop-row.ordered.items c.in-Some.row _ c.loop-row.invariant c.in_ok-ordered_row.ensures)

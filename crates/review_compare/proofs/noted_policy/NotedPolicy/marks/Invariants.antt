@@ -1,5 +1,4 @@
 use Rattle.std.proofs.Common.{◌≡◌, take}
-use Rattle.std.specs.Prelude.{◌||◌}
 use Rattle.std.specs.List.{list_any}
 use Rattle.review_texts.specs.declared.note.Note.{Note}
 use Rattle.review_grants.specs.Depends.{has_mark, is_noted_at}

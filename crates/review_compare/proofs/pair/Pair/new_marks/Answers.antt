@@ -1,6 +1,5 @@
 use Rattle.std.proofs.Common.{◌<◌, Bool, List, Option, arith, get_or, length, subst, sym}
 use Rattle.sudo_match.specs.declared.people.Machine.{Machine}
-use Rattle.review_compare.specs.declared.host_marks.HostMarks.{HostMarks}
 use Rattle.review_compare.specs.Body.Chosen.{AreMarks}
 use Rattle.review_compare.specs.Body.HostMarks.{AreHostMarks}
 use Rattle.review_compare.proofs.HostMarksLemmas.{known-at}
