@@ -1,11 +1,11 @@
--- What a user is given on the way to another one is the same with either of two groups that no list names, where the user that has
--- them, or is asked for with them, has both or neither.
+-- What blocks give a user on the way to another one is the same with either of two groups that no list of theirs names, where the user
+-- that has them, or is asked for with them, has both or neither.
 use Rattle.std.proofs.Common.{◌≡◌, ◌∙◌, ℕ, Bool, true, false, not, cond, ◌&&◌, ◌||◌, ◌==◌, List, [], ◌∷◌, ap, refl, sym}
 use Rattle.std.proofs.Common.{Option, Some, None, inl, inr}
-use Rattle.std.specs.Prelude.{bytes_eq, codes, filter, is_some, option_map, unwrap_or}
+use Rattle.std.proofs.Common.{option_copied}
+use Rattle.std.specs.Prelude.{bytes_eq, codes, is_some, option_map, unwrap_or}
 use Rattle.std.specs.Option.{option_or}
 use Rattle.std.specs.List.{Contains}
-use Rattle.std.proofs.lemmas.List.Elements.{All-contains, All-contains_itself, All-filter}
 use Rattle.std.proofs.lemmas.List.Folds.{list_any-append}
 use Rattle.sudo_grammar.specs.declared.kind.Atom.{Atom}
 use Rattle.sudo_grammar.specs.declared.kind.Atom.TheVariants as atom
@@ -21,20 +21,21 @@ use Rattle.sudo_match.specs.declared.people.Person.{Person}
 use Rattle.sudo_match.specs.KnownRows.{KnownRows}
 use Rattle.sudo_match.specs.Matching.{group_fits, user_fits}
 use Rattle.sudo_policy.specs.Written.{written_form}
-use Rattle.sudo_verdict.specs.Grants.{Grant, grants}
 use Rattle.sudo_verdict.specs.Last.{last_that}
 use Rattle.sudo_verdict.specs.Questions.{question_as}
 use Rattle.sudo_verdict.specs.RunasForms.{form_allows, group_allowed, has_asked, has_group, is_same_user, runas_allows, target_value}
-use Rattle.sudo_verdict.specs.Values.{allows, host_allowed, is_all, user_allowed, value}
-use Rattle.review_grants.specs.Rows.{rows}
-use Rattle.review_roots.specs.Asked.{better, given_alone, given_asked, given_by, given_towards, nothing}
+use Rattle.sudo_verdict.specs.Values.{allows, is_all, user_allowed, value}
+use Rattle.review_roots.specs.declared.block.Block.{Block}
+use Rattle.review_roots.specs.Asked.{better, nothing}
+use Rattle.review_roots.specs.Blocks.{block_rows, is_for, standing_rows, with_rows}
+use Rattle.review_roots.specs.Body.Deciding.{alone_by, asked_by, towards_by}
 use Rattle.review_roots.specs.Body.Kept.{IsAlike}
 use Rattle.review_roots.specs.Body.Unnamed.{AreIds, IsAbsent, fits_by_name, is_unnamed, lists_group, runas_groups}
 use Rattle.review_roots.specs.Body.Unnamed.{runas_list, runas_users}
 use Rattle.review_roots.specs.KnownGroups.{list_names, names_group}
 use Rattle.review_roots.specs.States.{with_added}
 use Rattle.review_roots.proofs.GroupLemmas.{or-false, same-last}
-use Rattle.review_roots.proofs.MemberLemmas.{filter-same, neither}
+use Rattle.review_roots.proofs.MemberLemmas.{flat-same, neither}
 
 -- ---- A list of groups that does not name a group says of it what it says by ALL
 
@@ -77,24 +78,25 @@ unfolding value
 added-value k p members u g none =
     ap (option_map (λ (w : Signed). not w.negated)) (same-last (written_form k p members) u g none)
 
--- the lists of users that a grant has name neither
-module _ (p : Policy) (x : Grant) (g : Group) (absent : IsAbsent p g x.users x.runas) where
-  apart : (list_names g (written_form kind.User p x.users) ≡ false) × (list_names g (runas_users p x.runas) ≡ false)
+-- the lists of users that a block has name neither
+module _ (p : Policy) (x : Block) (g : Group) (absent : IsAbsent p g x.users.now (option_copied x.runas)) where
+  apart : (list_names g (written_form kind.User p x.users.now) ≡ false) × (list_names g (runas_users p (option_copied x.runas)) ≡ false)
   apart =
-      neither (list_names g (written_form kind.User p x.users)) (list_names g (runas_users p x.runas))
-      (sym (list_any-append (λ (w : Signed). names_group g w.atom) (written_form kind.User p x.users) (runas_users p x.runas))
+      neither (list_names g (written_form kind.User p x.users.now)) (list_names g (runas_users p (option_copied x.runas)))
+      (sym (list_any-append (λ (w : Signed). names_group g w.atom) (written_form kind.User p x.users.now)
+      (runas_users p (option_copied x.runas)))
       ∙ absent.0)
 
-  pub added-allowed : (u : Person) → user_allowed p x.users (with_added u (Some g)) ≡ user_allowed p x.users u
-  added-allowed u = ap allows (added-value kind.User p x.users u g apart.0)
+  pub added-allowed : (u : Person) → user_allowed p x.users.now (with_added u (Some g)) ≡ user_allowed p x.users.now u
+  added-allowed u = ap allows (added-value kind.User p x.users.now u g apart.0)
 
-  pub added-target : (r : Runas) (users : List Member) (u : Person) → x.runas ≡ Some r → r.users ≡ Some users
+  pub added-target : (r : Runas) (users : List Member) (u : Person) → option_copied x.runas ≡ Some r → r.users ≡ Some users
       → target_value p users (with_added u (Some g)) ≡ target_value p users u
   added-target r users u is has =
       added-value kind.Runas p users u g (ap (λ o. list_names g (runas_list p o)) (sym has)
       ∙ ap (λ o. list_names g (runas_users p o)) (sym is) ∙ apart.1)
 
-  pub absent-groups : (r : Runas) (members : List Member) → x.runas ≡ Some r → r.groups ≡ Some members
+  pub absent-groups : (r : Runas) (members : List Member) → option_copied x.runas ≡ Some r → r.groups ≡ Some members
       → lists_group g (written_form kind.Runas p members) ≡ false
   absent-groups r members is has =
       ap (λ o. lists_group g (runas_list p o)) (sym has) ∙ ap (λ o. lists_group g (runas_groups p o)) (sym is) ∙ absent.1
@@ -135,11 +137,11 @@ groups-allow p members u v (Some g) (Some h) some same has =
 abbrev pub IsWithin : List Group → Option Group → Type 0
 IsWithin groups o = (g : Group) → o ≡ Some g → Contains groups g
 
--- the groups that the policy's IDs leave out; a user, with two added groups that are alike to it; another one, asked for with two
+-- the groups that the IDs of the blocks leave out; a user, with two added groups that are alike to it; another one, asked for with two
 -- groups that are alike to that one; and the user with the one has the first that is asked for if and only if the user with the
 -- other has the second
 module _
-    (p : Policy) (d : KnownRows) (m : Machine) (groups : List Group) (ids : List ℕ) (unnamed : AreIds p groups ids)
+    (p : Policy) (d : KnownRows) (bs : List Block) (m : Machine) (groups : List Group) (ids : List ℕ) (unnamed : AreIds p bs groups ids)
     (u v : Person) (a a' b b' : Option Group) (from : IsAlike ids u a a') (to : IsAlike ids v b b')
     (of_a : IsWithin groups a) (of_a' : IsWithin groups a') (of_b : IsWithin groups b) (of_b' : IsWithin groups b')
     (own : is_same_user v u ≡ true → has_asked (with_added u a) b ≡ has_asked (with_added u a') b')
@@ -150,25 +152,25 @@ module _
     abbrev other : Person
     other = with_added u a'
 
-    -- ---- Lists of a grant
+    -- ---- Lists of a block
 
-    is-absent : (x : Grant) → Contains (grants p) x → (g : Group) → Contains groups g → is_unnamed ids g ≡ true
-        → IsAbsent p g x.users x.runas
+    is-absent : (x : Block) → Contains bs x → (g : Group) → Contains groups g → is_unnamed ids g ≡ true
+        → IsAbsent p g x.users.now (option_copied x.runas)
     is-absent x inside g there none = unnamed g there none x inside
 
-    listed-same : (x : Grant) → Contains (grants p) x → user_allowed p x.users one ≡ user_allowed p x.users other
+    listed-same : (x : Block) → Contains bs x → user_allowed p x.users.now one ≡ user_allowed p x.users.now other
     listed-same x inside = go from
       where
-        go : IsAlike ids u a a' → user_allowed p x.users one ≡ user_allowed p x.users other
-        go (inl e) = ap (λ o. user_allowed p x.users (with_added u o)) e
+        go : IsAlike ids u a a' → user_allowed p x.users.now one ≡ user_allowed p x.users.now other
+        go (inl e) = ap (λ o. user_allowed p x.users.now (with_added u o)) e
         go (inr two) =
-            ap (λ o. user_allowed p x.users (with_added u o)) two.is_one
+            ap (λ o. user_allowed p x.users.now (with_added u o)) two.is_one
             ∙ added-allowed p x two.one (is-absent x inside two.one (of_a two.one two.is_one) two.one_unnamed) u
-            ∙ sym (ap (λ o. user_allowed p x.users (with_added u o)) two.is_other
+            ∙ sym (ap (λ o. user_allowed p x.users.now (with_added u o)) two.is_other
             ∙ added-allowed p x two.other
             (is-absent x inside two.other (of_a' two.other two.is_other) two.other_unnamed) u)
 
-    target-same : (x : Grant) → Contains (grants p) x → (r : Runas) (users : List Member) → x.runas ≡ Some r → r.users ≡ Some users
+    target-same : (x : Block) → Contains bs x → (r : Runas) (users : List Member) → option_copied x.runas ≡ Some r → r.users ≡ Some users
         → target_value p users one ≡ target_value p users other
     target-same x inside r users is has = go from
       where
@@ -181,7 +183,7 @@ module _
             ∙ added-target p x two.other
             (is-absent x inside two.other (of_a' two.other two.is_other) two.other_unnamed) r users u is has)
 
-    value-same : (x : Grant) → Contains (grants p) x → (r : Runas) (members : List Member) → x.runas ≡ Some r
+    value-same : (x : Block) → Contains bs x → (r : Runas) (members : List Member) → option_copied x.runas ≡ Some r
         → r.groups ≡ Some members → (g h : Group) → b ≡ Some g → b' ≡ Some h → group_value p members g ≡ group_value p members h
     value-same x inside r members is has g h is_g is_h = go to
       where
@@ -212,7 +214,8 @@ module _
 
     -- ---- Asking for the other user by name
 
-    own-groups : (x : Grant) → Contains (grants p) x → (r : Runas) (members : List Member) → x.runas ≡ Some r → r.groups ≡ Some members
+    own-groups : (x : Block) → Contains bs x → (r : Runas) (members : List Member) → option_copied x.runas ≡ Some r
+        → r.groups ≡ Some members
         → (is_same_user v one && group_allowed p members one b) ≡ (is_same_user v other && group_allowed p members other b')
     own-groups x inside r members is has = go (is_same_user v one) refl
       where
@@ -233,7 +236,7 @@ module _
         go true e = ap (λ c. c && has_asked one b) user-same ∙ ap (λ c. is_same_user v other && c) (own (sym is-user ∙ e))
         go false e = ap (λ c. c && has_asked one b) e ∙ sym (ap (λ c. c && has_asked other b') (sym user-same ∙ e))
 
-    pair-allows : (x : Grant) → Contains (grants p) x → (r : Runas) (users members : List Member) → x.runas ≡ Some r
+    pair-allows : (x : Block) → Contains bs x → (r : Runas) (users members : List Member) → option_copied x.runas ≡ Some r
         → r.groups ≡ Some members
         → (unwrap_or (target_value p users v) (is_some b && is_same_user v one) && group_allowed p members v b)
         ≡ (unwrap_or (target_value p users v) (is_some b' && is_same_user v other) && group_allowed p members v b')
@@ -243,19 +246,20 @@ module _
         ∙ ap (λ c. unwrap_or (target_value p users v) (is_some b' && is_same_user v other) && c)
         (groups-allow p members v v b b' some-same (value-same x inside r members is has) has-same)
 
-    named-allows : (x : Grant) → Contains (grants p) x
-        → runas_allows p (question_as d one m (Some v) b) x.runas ≡ runas_allows p (question_as d other m (Some v) b') x.runas
+    named-allows : (x : Block) → Contains bs x
+        → runas_allows p (question_as d one m (Some v) b) (option_copied x.runas)
+        ≡ runas_allows p (question_as d other m (Some v) b') (option_copied x.runas)
     unfolding runas_allows form_allows
-    named-allows x inside = go x.runas refl
+    named-allows x inside = go (option_copied x.runas) refl
       where
-        forms : (r : Runas) → x.runas ≡ Some r → (users members : Option (List Member)) → r.users ≡ users → r.groups ≡ members
+        forms : (r : Runas) → option_copied x.runas ≡ Some r → (users members : Option (List Member)) → r.users ≡ users → r.groups ≡ members
             → form_allows p (question_as d one m (Some v) b) users members ≡ form_allows p (question_as d other m (Some v) b') users members
         forms r is (Some users) (Some members) e f = pair-allows x inside r users members is f
         forms r is (Some users) None e f = ap (λ c. allows (target_value p users v) && c) has-same
         forms r is None (Some members) e f = own-groups x inside r members is f
         forms r is None None e f = own-asked
 
-        go : (o : Option Runas) → x.runas ≡ o
+        go : (o : Option Runas) → option_copied x.runas ≡ o
             → runas_allows p (question_as d one m (Some v) b) o ≡ runas_allows p (question_as d other m (Some v) b') o
         go None is = ap (λ c. bytes_eq v.name (codes "root") && c) has-same
         go (Some r) is = forms r is r.users r.groups refl refl
@@ -271,18 +275,20 @@ module _
           ap (λ n. bytes_eq n (with_added u a).name) (name-kept u a ∙ sym (name-kept u a'))
           ∙ ap (bytes_eq (with_added u a').name) (name-kept u a ∙ sym (name-kept u a'))
 
-      values : (x : Grant) → Contains (grants p) x → (r : Runas) (members : List Member) → x.runas ≡ Some r → r.groups ≡ Some members
+      values : (x : Block) → Contains bs x → (r : Runas) (members : List Member) → option_copied x.runas ≡ Some r → r.groups ≡ Some members
           → group_allowed p members one (Some g) ≡ group_allowed p members other (Some h)
       values x inside r members is has =
           ap (λ o. unwrap_or o (has_group one g)) (value-same x inside r members is has g h is_g is_h)
           ∙ ap (unwrap_or (group_value p members h)) owned
 
-      alone-allows : (x : Grant) → Contains (grants p) x
-          → runas_allows p (question_as d one m None (Some g)) x.runas ≡ runas_allows p (question_as d other m None (Some h)) x.runas
+      alone-allows : (x : Block) → Contains bs x
+          → runas_allows p (question_as d one m None (Some g)) (option_copied x.runas)
+          ≡ runas_allows p (question_as d other m None (Some h)) (option_copied x.runas)
       unfolding runas_allows form_allows
-      alone-allows x inside = go x.runas refl
+      alone-allows x inside = go (option_copied x.runas) refl
         where
-          forms : (r : Runas) → x.runas ≡ Some r → (users members : Option (List Member)) → r.users ≡ users → r.groups ≡ members
+          forms : (r : Runas) → option_copied x.runas ≡ Some r → (users members : Option (List Member)) → r.users ≡ users
+              → r.groups ≡ members
               → form_allows p (question_as d one m None (Some g)) users members
               ≡ form_allows p (question_as d other m None (Some h)) users members
           forms r is (Some users) (Some members) e f =
@@ -295,60 +301,58 @@ module _
           forms r is None (Some members) e f = values x inside r members is f
           forms r is None None e f = owned
 
-          go : (o : Option Runas) → x.runas ≡ o
+          go : (o : Option Runas) → option_copied x.runas ≡ o
               → runas_allows p (question_as d one m None (Some g)) o ≡ runas_allows p (question_as d other m None (Some h)) o
           go None is =
               ap (λ n. bytes_eq n (codes "root") && has_group one g) (name-kept u a ∙ sym (name-kept u a'))
               ∙ ap (λ c. bytes_eq (with_added u a').name (codes "root") && c) owned
           go (Some r) is = forms r is r.users r.groups refl refl
 
-    -- ---- The rows, and what they give
+    -- ---- The blocks that stand, and what they give
 
-    rows-same : rows p one m ≡ rows p other m
-    rows-same =
-        filter-same (λ x. user_allowed p x.users one && host_allowed p x.hosts m)
-        (λ x. user_allowed p x.users other && host_allowed p x.hosts m)
-        (grants p) (λ x inside. ap (λ c. c && host_allowed p x.hosts m) (listed-same x inside))
-
-    row-granted : (x : Grant) → Contains (rows p other m) x → Contains (grants p) x
-    row-granted x inside =
-        All-contains (Contains (grants p)) (rows p other m) x
-        (All-filter (λ x. user_allowed p x.users other && host_allowed p x.hosts m) (Contains (grants p)) (grants p)
-        (All-contains_itself (grants p))) inside
+    rows-same :
+        (t t' : Option Person) (g g' : Option Group) (x : Block) →
+        user_allowed p x.users.now one ≡ user_allowed p x.users.now other →
+        runas_allows p (question_as d one m t g) (option_copied x.runas)
+        ≡ runas_allows p (question_as d other m t' g') (option_copied x.runas) →
+        standing_rows p (question_as d one m t g) x ≡ standing_rows p (question_as d other m t' g') x
+    rows-same t t' g g' x listed allowed =
+        ap (λ c. cond (c && (is_for p m x && runas_allows p (question_as d one m t g) (option_copied x.runas))) (block_rows x) []) listed
+        ∙ ap (λ c. cond (user_allowed p x.users.now other && (is_for p m x && c)) (block_rows x) []) allowed
 
     given-same :
         (t t' : Option Person) (g g' : Option Group) →
-        ((x : Grant) → Contains (grants p) x
-        → runas_allows p (question_as d one m t g) x.runas ≡ runas_allows p (question_as d other m t' g') x.runas) →
-        given_asked p d one m t g ≡ given_asked p d other m t' g'
+        ((x : Block) → Contains bs x
+        → runas_allows p (question_as d one m t g) (option_copied x.runas)
+        ≡ runas_allows p (question_as d other m t' g') (option_copied x.runas)) →
+        asked_by p d bs one m t g ≡ asked_by p d bs other m t' g'
     given-same t t' g g' same =
-        ap (given_by p)
-        (ap (filter (λ x. runas_allows p (question_as d one m t g) x.runas)) rows-same
-        ∙ filter-same (λ x. runas_allows p (question_as d one m t g) x.runas) (λ x. runas_allows p (question_as d other m t' g') x.runas)
-        (rows p other m) (λ x inside. same x (row-granted x inside)))
+        ap (with_rows nothing)
+        (flat-same (standing_rows p (question_as d one m t g)) (standing_rows p (question_as d other m t' g')) bs
+        (λ x inside. rows-same t t' g g' x (listed-same x inside) (same x inside)))
 
-    alone-same : given_alone p d m one v b ≡ given_alone p d m other v b'
+    alone-same : alone_by p d bs m one v b ≡ alone_by p d bs m other v b'
     alone-same = go (is_same_user v one) refl b b' refl refl
       where
         go : (c : Bool) → is_same_user v one ≡ c → (o o' : Option Group) → b ≡ o → b' ≡ o'
-            → given_alone p d m one v o ≡ given_alone p d m other v o'
+            → alone_by p d bs m one v o ≡ alone_by p d bs m other v o'
         go false e o o' is is' =
-            ap (λ c. cond (c && is_some o) (given_asked p d one m None o) nothing) e
-            ∙ sym (ap (λ c. cond (c && is_some o') (given_asked p d other m None o') nothing) (sym user-same ∙ e))
+            ap (λ c. cond (c && is_some o) (asked_by p d bs one m None o) nothing) e
+            ∙ sym (ap (λ c. cond (c && is_some o') (asked_by p d bs other m None o') nothing) (sym user-same ∙ e))
         go true e None None is is' =
-            ap (λ c. cond (c && false) (given_asked p d one m None None) nothing) e
-            ∙ sym (ap (λ c. cond (c && false) (given_asked p d other m None None) nothing) (sym user-same ∙ e))
+            ap (λ c. cond (c && false) (asked_by p d bs one m None None) nothing) e
+            ∙ sym (ap (λ c. cond (c && false) (asked_by p d bs other m None None) nothing) (sym user-same ∙ e))
         go true e (Some g) None is is' =
             absurd (let bad : true ≡ false = sym (ap is_some is) ∙ some-same ∙ ap is_some is' in cc)
         go true e None (Some h) is is' =
             absurd (let bad : false ≡ true = sym (ap is_some is) ∙ some-same ∙ ap is_some is' in cc)
         go true e (Some g) (Some h) is is' =
-            ap (λ c. cond (c && true) (given_asked p d one m None (Some g)) nothing) e
+            ap (λ c. cond (c && true) (asked_by p d bs one m None (Some g)) nothing) e
             ∙ given-same None None (Some g) (Some h) (alone-allows (sym is-user ∙ e) g h is is')
-            ∙ sym (ap (λ c. cond (c && true) (given_asked p d other m None (Some h)) nothing) (sym user-same ∙ e))
+            ∙ sym (ap (λ c. cond (c && true) (asked_by p d bs other m None (Some h)) nothing) (sym user-same ∙ e))
 
-    -- what the user is given on the way to the other is the same
-    pub towards-same : given_towards p d m one v b ≡ given_towards p d m other v b'
+    -- what these blocks give the user on the way to the other is the same
+    pub towards-same : towards_by p d bs m one v b ≡ towards_by p d bs m other v b'
     towards-same =
-        ap (λ x. better x (given_alone p d m one v b)) (given-same (Some v) (Some v) b b' named-allows)
-        ∙ ap (better (given_asked p d other m (Some v) b')) alone-same
+        ap (λ x. better x (alone_by p d bs m one v b)) (given-same (Some v) (Some v) b b' named-allows)
+        ∙ ap (better (asked_by p d bs other m (Some v) b')) alone-same

@@ -18,6 +18,7 @@ use Rattle.review_roots.specs.declared.search.Found.{Found}
 use Rattle.review_roots.specs.declared.search.Sought.{Sought}
 use Rattle.review_roots.specs.declared.state.State.{State}
 use Rattle.review_roots.specs.Body.Found.{AreFound, AreOrdered, IsFound, IsLinked, IsStep, found_states}
+use Rattle.review_roots.specs.Body.Deciding.{deciding}
 use Rattle.review_roots.specs.Body.Kept.{AreAlike, AreKept}
 use Rattle.review_roots.specs.Body.Passing.{IsAlong}
 use Rattle.review_roots.specs.Chains.{Steps, Path, here, more, HasNoPath, LeadsAlong}
@@ -27,7 +28,7 @@ use Rattle.review_roots.specs.Sought.{steps_of}
 use Rattle.review_roots.proofs.ChainLemmas.{chains-are-paths}
 use Rattle.review_roots.proofs.KeptLemmas.{host-keeps, state-parts, there}
 use Rattle.review_roots.proofs.OrderLemmas.{behind-itself, behind-trans, states-same}
-use Rattle.review_roots.proofs.PathLemmas.{HasWithin, alike-turn, itself, kept-path, plain-path, step-same}
+use Rattle.review_roots.proofs.PathLemmas.{AreSame, HasWithin, alike-turn, itself, kept-path, plain-path, step-same}
 use Rattle.review_roots.proofs.SearchLemmas.{at-contains, contains-at, from-map}
 
 -- ---- The chain of a found state, gathered from its first step on
@@ -62,15 +63,15 @@ first-states d s u ss us not rest = go (state_cmp d s u) refl not
     go Equal is e = ap (λ o. is_gt (ordering_then o (slice_cmp (state_cmp d) ss us))) is ∙ rest is
     go Greater is e = cc
 
-module _ (h : HostSteps) (q : Sought) (l : Level) (found : List Found) (are : AreFound (steps_of h q) h.states.now l found)
-    (order : AreOrdered h q l found) where
+module _ (h : HostSteps) (q : Sought) (l : Level) (above : is_at_least h.least l ≡ true) (found : List Found)
+    (are : AreFound (steps_of h q) h.states.now l found) (order : AreOrdered h q l found) where
   abbrev g : Steps State
   g = steps_of h q
 
   abbrev d : KnownRows
   d = h.directory.now
 
-  keeps : AreKept h.checked.now h.directory.now h.groups.now h.states.now
+  keeps : AreKept h.checked.now (deciding h.least h.blocks.now) h.directory.now h.groups.now h.states.now
   keeps = host-keeps h
 
   right-at : (i : ℕ) (f : Found) → slice_get found i ≡ Some f → IsFound g l f
@@ -170,10 +171,10 @@ module _ (h : HostSteps) (q : Sought) (l : Level) (found : List Found) (are : Ar
         go (v, (kept_v, (alike, before))) =
             by (step-same h q h.faultless keeps f.state f.state u v (itself h q h.faultless keeps f.state) alike)
           where
-            by : AreAlike d h.groups.now keeps.ids f.state u ⊎ (g.level f.state u ≡ g.level f.state v)
+            by : AreAlike d h.groups.now keeps.ids f.state u ⊎ AreSame h q h.faultless keeps (g.level f.state u) (g.level f.state v)
                 → is_gt (state_cmp d t.state u) ≡ false
             by (inl same) =
-                let p = kept-path h q h.faultless keeps l path_u f.state kept_f (alike-back same) in
+                let p = kept-path h q h.faultless keeps l above path_u f.state kept_f (alike-back same) in
                 let short = (right-at i f at).shortest p.0 (plain-path h q h.faultless keeps l p.1.1) in
                 let most = p.1.0 in
                 absurd (omega (arith, short, most, few))
@@ -182,7 +183,7 @@ module _ (h : HostSteps) (q : Sought) (l : Level) (found : List Found) (are : Ar
                 alike-back a = alike-turn h q h.faultless keeps f.state u f.state a (itself h q h.faultless keeps f.state)
             by (inr level) =
                 behind-trans d t.state v u
-                (by-kept v kept_v (ap (is_at_least l) (sym level) ∙ step) (kept-path h q h.faultless keeps l path_u v kept_v alike)) before
+                (by-kept v kept_v (sym (level l above) ∙ step) (kept-path h q h.faultless keeps l above path_u v kept_v alike)) before
 
   -- no shortest chain from a found state goes before its own
   pub first-along :

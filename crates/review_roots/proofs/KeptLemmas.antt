@@ -16,9 +16,11 @@ use Rattle.sudo_match.specs.declared.people.Group.{Group}
 use Rattle.sudo_match.specs.declared.people.Person.{Person}
 use Rattle.sudo_match.specs.KnownRows.{KnownRows}
 use Rattle.sudo_verdict.specs.RunasForms.{has_group}
+use Rattle.review_roots.specs.declared.block.Block.{Block}
 use Rattle.review_roots.specs.declared.host.HostSteps.{HostSteps}
 use Rattle.review_roots.specs.declared.state.State.{State}
 use Rattle.review_roots.specs.Body.Candidates.{has_state}
+use Rattle.review_roots.specs.Body.Deciding.{deciding}
 use Rattle.review_roots.specs.Body.Kept.{AreAlike, AreKept, has_at, has_if, if_any, kept_at, kept_by, kept_groups}
 use Rattle.review_roots.specs.Body.Kept.{kept_if, kept_states, states_by}
 use Rattle.review_roots.specs.Body.Unnamed.{AreIds, is_unnamed, named_indices, unnamed_at, unnamed_if, unnamed_indices}
@@ -323,8 +325,8 @@ module _ (d : KnownRows) (groups : List Group) (ids : List ℕ) where
           let user = from-flat (kept_at d groups named others) (range_with_len 0 n) s h in
           added user.0 (in-range n user.0 user.1.0) (slice_get d.people user.0) user.1.1
 
-  pub are-kept : (p : Policy) → AreIds p groups ids → AreKept p d groups kept
-  are-kept p unnamed = record {
+  pub are-kept : (p : Policy) (bs : List Block) → AreIds p bs groups ids → AreKept p bs d groups kept
+  are-kept p bs unnamed = record {
     ids = ids;
     unnamed = unnamed;
     inside = all-of (Contains (all_states n m)) kept kept-inside;
@@ -334,9 +336,9 @@ module _ (d : KnownRows) (groups : List Group) (ids : List ℕ) where
 
 -- states that are the same ones, in any order
 moved-kept :
-    (p : Policy) (d : KnownRows) (groups : List Group) (one other : List State) → ((s : State) → has_state other s ≡ has_state one s)
-    → AreKept p d groups one → AreKept p d groups other
-moved-kept p d groups one other same keeps = record {
+    (p : Policy) (bs : List Block) (d : KnownRows) (groups : List Group) (one other : List State) →
+    ((s : State) → has_state other s ≡ has_state one s) → AreKept p bs d groups one → AreKept p bs d groups other
+moved-kept p bs d groups one other same keeps = record {
   ids = keeps.ids;
   unnamed = keeps.unnamed;
   inside = all-of (Contains (all_states (length d.people) (length groups))) other
@@ -350,10 +352,11 @@ moved-kept p d groups one other same keeps = record {
     moved : (s : State) → Contains one s → Contains other s
     moved s inside = has-in other s (same s ∙ in-has one s inside)
 
-pub host-keeps : (h : HostSteps) → AreKept h.checked.now h.directory.now h.groups.now h.states.now
+pub host-keeps : (h : HostSteps) → AreKept h.checked.now (deciding h.least h.blocks.now) h.directory.now h.groups.now h.states.now
 host-keeps h =
-    moved-kept h.checked.now h.directory.now h.groups.now (kept_states h.directory.now h.groups.now h.ids.now) h.states.now h.kept
-    (are-kept h.directory.now h.groups.now h.ids.now h.checked.now h.unnamed)
+    moved-kept h.checked.now (deciding h.least h.blocks.now) h.directory.now h.groups.now
+    (kept_states h.directory.now h.groups.now h.ids.now) h.states.now h.kept
+    (are-kept h.directory.now h.groups.now h.ids.now h.checked.now (deciding h.least h.blocks.now) h.unnamed)
 
 -- ---- The states of one user more
 

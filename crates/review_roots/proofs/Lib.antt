@@ -28,6 +28,7 @@ pub mod ChainLemmas
 pub mod TowardLemmas
 pub mod IndexLemmas
 pub mod WeakLemmas
+pub mod DecidingLemmas
 pub mod CandidateLemmas
 pub mod MemberLemmas
 pub mod UnnamedLemmas

@@ -1,5 +1,5 @@
 -- What loops and calls leave, in the words of the definitions.
-use Rattle.std.proofs.Common.{◌≡◌, ◌<◌, ◌≤◌, ◌∙◌, ℕ, zero, suc, false, List, [], ◌∷◌, ◌++◌, ◌&&◌, ap, arith, drop, false}
+use Rattle.std.proofs.Common.{◌≡◌, ◌<◌, ◌≤◌, ◌∙◌, ℕ, zero, suc, true, false, List, [], ◌∷◌, ◌++◌, ◌&&◌, ap, arith, drop, false}
 use Rattle.std.proofs.Common.{flat_map, get_or, length}
 use Rattle.std.proofs.Common.{map, refl, subst, sym, take}
 use Rattle.std.proofs.Common.{Option, Some, None, Bor, Global, Vec, option_copied}
@@ -29,6 +29,7 @@ use Rattle.review_roots.specs.Asked.{given_asked, nothing}
 use Rattle.review_roots.specs.Blocks.{Row, is_for, lists, sign_of, with_rows}
 use Rattle.review_roots.specs.Body.Candidates.{part_at}
 use Rattle.review_roots.specs.Body.Found.{PointBack, AreFound, AreGiven, AreOrdered, IsCandidate, IsFound, found_states}
+use Rattle.review_roots.specs.Ranks.{is_at_least}
 use Rattle.review_roots.specs.Sought.{steps_of}
 use Rattle.review_roots.specs.Chains.{Steps}
 use Rattle.review_roots.specs.Ways.{IsChain, first_row, marks_along, password_along, step_password, worse}
@@ -183,8 +184,9 @@ states-inside g l found right s c =
 
 pub way-is :
     (h : HostSteps) (q : Sought) (l : Level) (found : List Found) (index : ℕ) (d f : Found) (chain : Vec State Global)
-    (password : Password) (marks : Marks) → AreFound (steps_of h q) h.states.now l found → AreOrdered h q l found → AreGiven h found →
-    index < length found → slice_get found index ≡ Some f → LeadsWhole found index chain.items → IsAlong found index chain.items →
+    (password : Password) (marks : Marks) → is_at_least h.least l ≡ true → AreFound (steps_of h q) h.states.now l found →
+    AreOrdered h q l found → AreGiven h found → index < length found → slice_get found index ≡ Some f →
+    LeadsWhole found index chain.items → IsAlong found index chain.items →
     All (Contains (found_states found)) chain.items →
     HasRow found index chain.items → HasPassword found (get_or found index d).state.user index chain.items password →
     HasMarks found index chain.items marks →
@@ -195,7 +197,7 @@ pub way-is :
       password = password;
       marks = marks;
     })
-way-is h q l found index d f chain password marks are order given inside at leads along within row asks depends =
+way-is h q l found index d f chain password marks above are order given inside at leads along within row asks depends =
     let whole = leads (steps_of h q) l (get_or found index d) are.linked (there found index d inside) in
     let is = All-contains (IsFound (steps_of h q) l) found (get_or found index d) are.right (Contains-get_or found index d inside) in
     subst (λ (e : Found). IsChain h q e.state (record {
@@ -211,8 +213,8 @@ way-is h q l found index d f chain password marks are order given inside at lead
       leads = whole.0;
       shortest = λ n p. let few = is.shortest n p in let steps = whole.1 in omega (arith, few, steps);
       first = λ ts all_in other few.
-          first-along h q l found are order chain.items index (get_or found index d) (there found index d inside) along ts all_in other
-          (let steps = whole.1 in omega (arith, few, steps));
+          first-along h q l above found are order chain.items index (get_or found index d) (there found index d inside) along ts all_in
+          other (let steps = whole.1 in omega (arith, few, steps));
       by = row h (get_or found index d) given (there found index d inside);
       password = asks h (get_or found index d) given (there found index d inside);
       marks = depends h (get_or found index d) given (there found index d inside);

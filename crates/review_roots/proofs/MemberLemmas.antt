@@ -78,12 +78,12 @@ from-filter {X} t xs x h = at xs h
         go true is h rest = first is (from-append (y ∷ []) (filter t ys) x h) rest
         go false is h rest = widen (rest h)
 
--- two tests that say the same of each item filter the same
-pub filter-same : {X : Type 0} (s t : X → Bool) (xs : List X) → ((x : X) → Contains xs x → s x ≡ t x) → filter s xs ≡ filter t xs
-filter-same s t [] same = refl
-filter-same s t (x ∷ xs) same =
-    ap (λ b. cond b (x ∷ filter s xs) (filter s xs)) (same x (contains-head x xs x refl))
-    ∙ ap (λ ys. cond (t x) (x ∷ ys) ys) (filter-same s t xs (λ y h. same y (contains-cons x xs y h)))
+-- two lists for each item that are the same are the same end to end
+pub flat-same : {X Y : Type 0} (f g : X → List Y) (xs : List X) → ((x : X) → Contains xs x → f x ≡ g x) → flat_map f xs ≡ flat_map g xs
+flat-same f g [] same = refl
+flat-same f g (x ∷ xs) same =
+    ap (λ (ys : List _). ys ++ flat_map f xs) (same x (contains-head x xs x refl))
+    ∙ ap (λ (ys : List _). g x ++ ys) (flat-same f g xs (λ y h. same y (contains-cons x xs y h)))
 
 -- what no item of lists end to end passes, no item of each passes
 pub none-in : {X Y : Type 0} (t : Y → Bool) (f : X → List Y) (xs : List X) (x : X) → list_any t (flat_map f xs) ≡ false

@@ -17,6 +17,7 @@ use Rattle.review_roots.specs.declared.level.Level.{Level}
 use Rattle.review_roots.specs.declared.search.Found.{Found}
 use Rattle.review_roots.specs.declared.search.Sought.{Sought}
 use Rattle.review_roots.specs.declared.state.State.{State}
+use Rattle.review_roots.specs.Body.Deciding.{deciding}
 use Rattle.review_roots.specs.Body.Found.{AreFound, AreStarts, HaveNoChain, IsComplete, IsFound, IsFoundAt, IsLinked}
 use Rattle.review_roots.specs.Body.Found.{any_sought, found_states, kept_steps}
 use Rattle.review_roots.specs.Body.Kept.{AreAlike, AreBothUnnamed, AreKept, IsAlike}
@@ -27,6 +28,7 @@ use Rattle.review_roots.specs.Ranks.{is_at_least}
 use Rattle.review_roots.specs.Sought.{any_steps, steps_of}
 use Rattle.review_roots.specs.States.{given_between, group_at, is_start, level_for, state_with, with_added}
 use Rattle.review_roots.proofs.AlikeLemmas.{IsWithin, has-more, towards-same}
+use Rattle.review_roots.proofs.DecidingLemmas.{decided}
 use Rattle.review_roots.proofs.KeptLemmas.{host-keeps}
 use Rattle.review_roots.proofs.RootLemmas.{not-found}
 use Rattle.review_roots.proofs.SearchLemmas.{at-contains, path-state}
@@ -188,7 +190,7 @@ module _ (ids : List ℕ) (u : Person) where
 -- ---- Steps and chains on a host
 
 module _ (h : HostSteps) (q : Sought) (known : directory_fault h.directory.now.people h.directory.now.machines ≡ None)
-    (keeps : AreKept h.checked.now h.directory.now h.groups.now h.states.now) where
+    (keeps : AreKept h.checked.now (deciding h.least h.blocks.now) h.directory.now h.groups.now h.states.now) where
   abbrev g : Steps State
   g = steps_of h q
 
@@ -214,33 +216,42 @@ module _ (h : HostSteps) (q : Sought) (known : directory_fault h.directory.now.p
       level_for q.counted
       (given_between h.checked.now h.directory.now h.host.now (option_map (λ x. with_added x (added s)) u) v (added t))
 
+  -- steps have the same of the levels that are sought
+  abbrev pub AreSame : Level → Level → Type 0
+  AreSame a b = (l : Level) → is_at_least h.least l ≡ true → is_at_least l a ≡ is_at_least l b
+
   -- steps between states that are alike are the same, but for one between two that are alike to one another
-  pub step-same : (s s' t t' : State) → Alike s s' → Alike t t' → Alike s t ⊎ (g.level s t ≡ g.level s' t')
+  pub step-same : (s s' t t' : State) → Alike s s' → Alike t t' → Alike s t ⊎ AreSame (g.level s t) (g.level s' t')
   step-same s s' t t' from to = go (slice_get people s.user) refl (slice_get people t.user) refl
     where
       carried : (u v : Option Person) → slice_get people s.user ≡ u → slice_get people t.user ≡ v
-          → level-with s t u v ≡ level-with s' t' u v → g.level s t ≡ g.level s' t'
-      carried u v is at given =
+          → AreSame (level-with s t u v) (level-with s' t' u v) → AreSame (g.level s t) (g.level s' t')
+      carried u v is at given l above =
           let f : slice_get people s'.user ≡ u = ap (slice_get people) (sym from.0) ∙ is in
           let j : slice_get people t'.user ≡ v = ap (slice_get people) (sym to.0) ∙ at in
-          ap (λ o. level-with s t o (slice_get people t.user)) is ∙ ap (level-with s t u) at ∙ given
-          ∙ sym (ap (λ o. level-with s' t' o (slice_get people t'.user)) f ∙ ap (level-with s' t' u) j)
+          ap (is_at_least l) (ap (λ o. level-with s t o (slice_get people t.user)) is ∙ ap (level-with s t u) at) ∙ given l above
+          ∙ sym (ap (is_at_least l) (ap (λ o. level-with s' t' o (slice_get people t'.user)) f ∙ ap (level-with s' t' u) j))
 
       given :
           (u v : Person) → slice_get people s.user ≡ Some u → slice_get people t.user ≡ Some v →
           (is_same_user v u ≡ true → has_asked (with_added u (added s)) (added t) ≡ has_asked (with_added u (added s')) (added t')) →
-          level-with s t (Some u) (Some v) ≡ level-with s' t' (Some u) (Some v)
-      given u v is at own =
-          ap (level_for q.counted)
-          (towards-same h.checked.now h.directory.now h.host.now h.groups.now keeps.ids keeps.unnamed u v (added s) (added s') (added t)
-          (added t') (from.1 u is) (to.1 v at) (within s.added) (within s'.added) (within t.added) (within t'.added) own)
+          AreSame (level-with s t (Some u) (Some v)) (level-with s' t' (Some u) (Some v))
+      given u v is at own l above =
+          decided h.checked.now h.directory.now h.blocks.now h.host.now h.least h.tied h.listed (with_added u (added s)) v (added t)
+          q.counted l above
+          ∙ ap (λ a. is_at_least l (level_for q.counted a))
+          (towards-same h.checked.now h.directory.now (deciding h.least h.blocks.now) h.host.now h.groups.now keeps.ids keeps.unnamed u v
+          (added s) (added s') (added t) (added t') (from.1 u is) (to.1 v at) (within s.added) (within s'.added) (within t.added)
+          (within t'.added) own)
+          ∙ sym (decided h.checked.now h.directory.now h.blocks.now h.host.now h.least h.tied h.listed (with_added u (added s')) v
+          (added t') q.counted l above)
 
       both : (u v : Person) → slice_get people s.user ≡ Some u → slice_get people t.user ≡ Some v
-          → Alike s t ⊎ (g.level s t ≡ g.level s' t')
+          → Alike s t ⊎ AreSame (g.level s t) (g.level s' t')
       both u v is at = itself (is_same_user v u) refl
         where
           fits : (v ≡ u) → IsAlike keeps.ids u (added s) (added t) ⊎ (has_asked (with_added u (added s)) (added t)
-              ≡ has_asked (with_added u (added s')) (added t')) → s.user ≡ t.user → Alike s t ⊎ (g.level s t ≡ g.level s' t')
+              ≡ has_asked (with_added u (added s')) (added t')) → s.user ≡ t.user → Alike s t ⊎ AreSame (g.level s t) (g.level s' t')
           fits same (inl alike) user =
               inl (
                 user,
@@ -249,7 +260,7 @@ module _ (h : HostSteps) (q : Sought) (known : directory_fault h.directory.now.p
               )
           fits same (inr has) user = inr (carried (Some u) (Some v) is at (given u v is at (λ yes. has)))
 
-          itself : (b : Bool) → is_same_user v u ≡ b → Alike s t ⊎ (g.level s t ≡ g.level s' t')
+          itself : (b : Bool) → is_same_user v u ≡ b → Alike s t ⊎ AreSame (g.level s t) (g.level s' t')
           itself false e =
               inr (carried (Some u) (Some v) is at
               (given u v is at (λ yes. absurd (let bad : true ≡ false = sym yes ∙ e in cc))))
@@ -260,9 +271,9 @@ module _ (h : HostSteps) (q : Sought) (known : directory_fault h.directory.now.p
               (subst (λ w. IsAlike keeps.ids w (added t) (added t')) (sym row.0) (to.1 v at))) row.1
 
       go : (u : Option Person) → slice_get people s.user ≡ u → (v : Option Person) → slice_get people t.user ≡ v
-          → Alike s t ⊎ (g.level s t ≡ g.level s' t')
-      go None is v at = inr (carried None v is at refl)
-      go (Some u) is None at = inr (carried (Some u) None is at refl)
+          → Alike s t ⊎ AreSame (g.level s t) (g.level s' t')
+      go None is v at = inr (carried None v is at (λ l above. refl))
+      go (Some u) is None at = inr (carried (Some u) None is at (λ l above. refl))
       go (Some u) is (Some v) at = both u v is at
 
   pub alike-turn : (s t t' : State) → Alike s t → Alike s t' → Alike t t'
@@ -279,23 +290,24 @@ module _ (h : HostSteps) (q : Sought) (known : directory_fault h.directory.now.p
   HasWithin l n s = (m : ℕ) × ((m ≤ n) × Path k l m s)
 
   -- a chain from a state is one of no more steps, through kept states, from each kept state that is alike
-  pub kept-path : (l : Level) {n : ℕ} {s : State} → Path g l n s → (s' : State) → Contains k.states s' → Alike s s' → HasWithin l n s'
-  kept-path l (here {s} c at) s' inside alike =
+  pub kept-path : (l : Level) → is_at_least h.least l ≡ true → {n : ℕ} {s : State} → Path g l n s → (s' : State) → Contains k.states s'
+      → Alike s s' → HasWithin l n s'
+  kept-path l above (here {s} c at) s' inside alike =
       (zero, (omega arith, here inside (ap (λ u. u == q.target) (sym alike.0) ∙ at)))
-  kept-path l (more {n} {s} {t} c step rest) s' inside alike =
-      go (keeps.covers t (path-state g l rest)) (λ u there like. kept-path l rest u there like)
+  kept-path l above (more {n} {s} {t} c step rest) s' inside alike =
+      go (keeps.covers t (path-state g l rest)) (λ u there like. kept-path l above rest u there like)
     where
       go : (t' : State) × (Contains h.states.now t' × (Alike t t' × (is_gt (state_cmp h.directory.now t' t) ≡ false)))
           → ((u : State) → Contains k.states u → Alike t u → HasWithin l n u) → HasWithin l (suc n) s'
       go found behind = next (step-same s s' t found.0 alike found.1.1.0)
         where
-          next : Alike s t ⊎ (g.level s t ≡ g.level s' found.0) → HasWithin l (suc n) s'
+          next : Alike s t ⊎ AreSame (g.level s t) (g.level s' found.0) → HasWithin l (suc n) s'
           next (inl same) =
               let b = behind s' inside (alike-turn s t s' same alike) in (b.0, (let most = b.1.0 in omega (arith, most), b.1.1))
           next (inr level) =
               let b = behind found.0 found.1.0 found.1.1.0 in (
                 suc b.0,
-                (let most = b.1.0 in omega (arith, most), more inside (ap (is_at_least l) (sym level) ∙ step) b.1.1),
+                (let most = b.1.0 in omega (arith, most), more inside (sym (level l above) ∙ step) b.1.1),
               )
 
   -- a chain through kept states is one
@@ -313,27 +325,29 @@ module _ (h : HostSteps) (q : Sought) (known : directory_fault h.directory.now.p
   linked-among l found i f (Some next) (t, is) = (t, record { there = is.there; before = is.before; step = is.step; steps = is.steps })
 
   -- who has no chain through kept states has none
-  pub complete-among : (l : Level) (found : List Found) → IsComplete k k.states l found → IsComplete g h.states.now l found
-  complete-among l found complete s inside = go (complete s inside)
+  pub complete-among : (l : Level) → is_at_least h.least l ≡ true → (found : List Found) → IsComplete k k.states l found
+      → IsComplete g h.states.now l found
+  complete-among l above found complete s inside = go (complete s inside)
     where
       go : Contains (found_states found) s ⊎ HasNoPath k l s → Contains (found_states found) s ⊎ HasNoPath g l s
       go (inl there) = inl there
-      go (inr none) = inr (λ n path. let p = kept-path l path s inside (itself s) in none p.0 p.1.1)
+      go (inr none) = inr (λ n path. let p = kept-path l above path s inside (itself s) in none p.0 p.1.1)
 
   -- what is found among the kept states is so among all
-  pub found-among : (l : Level) (found : List Found) → AreFound k k.states l found → AreFound g h.states.now l found
-  found-among l found are = record {
+  pub found-among : (l : Level) → is_at_least h.least l ≡ true → (found : List Found) → AreFound k k.states l found
+      → AreFound g h.states.now l found
+  found-among l above found are = record {
     right = All-weaker (IsFound k l) (IsFound g l) (λ f is. record {
       inside = All-contains (Contains g.states) k.states f.state keeps.inside is.inside;
       path = (is.path.0, plain-path l is.path.1);
       shortest = λ n path.
-          let p = kept-path l path f.state is.inside (itself f.state) in
+          let p = kept-path l above path f.state is.inside (itself f.state) in
           let few = is.shortest p.0 p.1.1 in
           let most = p.1.0 in
           omega (arith, few, most);
     }) found are.right;
     linked = λ i f at. linked-among l found i f f.next (are.linked i f at);
-    complete = complete-among l found are.complete;
+    complete = complete-among l above found are.complete;
   }
 
 -- a user that is not found among the kept states has no chain

@@ -105,7 +105,7 @@ module _ (b : Block) (settled : settles b.effect ≡ true) where
       block-gives b a x.all x.free x.unasked (Some row) unmarked (sym (same-level a.level)) (sym (same-free a.free))
       (sym (same-unasked a.unasked)) (sym (same-row a.by)) (sym (same-marks a.marks))
 
-  settled-gives : (a c : Given) → with_rows a (block_rows b) ≡ with_rows c (block_rows b)
+  pub settled-gives : (a c : Given) → with_rows a (block_rows b) ≡ with_rows c (block_rows b)
   settled-gives a c = sym (gives a) ∙ gives c
 
 -- ---- From a block that settles on, blocks give what all give

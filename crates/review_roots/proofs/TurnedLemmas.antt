@@ -23,6 +23,7 @@ use Rattle.review_roots.specs.Body.Candidates.{states_of}
 use Rattle.review_roots.specs.Body.Found.{AreFound, AreGiven, AreOrdered, AreStarts, AreTurned, IsBest, IsFound, IsFoundAt}
 use Rattle.review_roots.specs.Body.Found.{IsLinked, IsStuck, PointBack, HaveNoChain, aims_at, any_sought, first_of, found_states}
 use Rattle.review_roots.specs.Body.Found.{is_asked, is_left, kept_steps, unasked_sought, found_there}
+use Rattle.review_roots.specs.Body.Deciding.{deciding}
 use Rattle.review_roots.specs.Body.Kept.{AreAlike, AreKept}
 use Rattle.review_roots.specs.Body.Passing.{IsAlong, IsTraced}
 use Rattle.review_roots.specs.Chains.{Steps, Path, here, more, HasNoPath, LeadsAlong}
@@ -41,7 +42,7 @@ use Rattle.review_roots.proofs.KeptLemmas.{host-keeps}
 use Rattle.review_roots.proofs.LayerLemmas.{IsFresh, get-append-split, pick-none, pick-some, pick-state, spread-given}
 use Rattle.review_roots.proofs.MemberLemmas.{from-filter}
 use Rattle.review_roots.proofs.OrderLemmas.{behind-itself, behind-trans, from-picked, to-picked}
-use Rattle.review_roots.proofs.PathLemmas.{HasWithin, alike-turn, itself, kept-path, plain-path, step-same}
+use Rattle.review_roots.proofs.PathLemmas.{AreSame, HasWithin, alike-turn, itself, kept-path, plain-path, step-same}
 use Rattle.review_roots.proofs.RootLemmas.{start-is, starts, states-have}
 use Rattle.review_roots.proofs.SearchLemmas.{at-contains, at-least-itself, at-least-trans, contains-at}
 use Rattle.review_roots.proofs.SearchLemmas.{from-map, get-append, in-filter, point-back}
@@ -118,7 +119,7 @@ module _
     abbrev states : List State
     states = (any_steps h target).states
 
-    keeps : AreKept h.checked.now h.directory.now h.groups.now h.states.now
+    keeps : AreKept h.checked.now (deciding h.least h.blocks.now) h.directory.now h.groups.now h.states.now
     keeps = host-keeps h
 
     start-state : Contains states start
@@ -233,15 +234,16 @@ module _
         go (v, (kept_v, (alike, before))) =
             which (step-same h any_q h.faultless keeps start start to v (itself h any_q h.faultless keeps start) alike)
           where
-            which : AreAlike d h.groups.now keeps.ids start to ⊎ ((any_steps h target).level start to ≡ (any_steps h target).level start v)
+            which : AreAlike d h.groups.now keeps.ids start to
+                ⊎ AreSame h any_q h.faultless keeps ((any_steps h target).level start to) ((any_steps h target).level start v)
                 → IsReached to n
             which (inl same) =
                 let back = alike-turn h unasked_q h.faultless keeps start to start same (itself h unasked_q h.faultless keeps start) in
-                let p = kept-path h unasked_q h.faultless keeps l path start kept_start back in
+                let p = kept-path h unasked_q h.faultless keeps l enough path start kept_start back in
                 absurd (none p.0 (plain-path h unasked_q h.faultless keeps l p.1.1))
             which (inr level) =
-                by_kept v kept_v before (ap (is_at_least l) (sym level) ∙ step)
-                (kept-path h unasked_q h.faultless keeps l path v kept_v alike)
+                by_kept v kept_v before (sym (level l enough) ∙ step)
+                (kept-path h unasked_q h.faultless keeps l enough path v kept_v alike)
 
     reached-by : (ts : List State) (turn : HasTurn ts) → IsReached turn.to (length turn.rest)
     reached-by ts turn =
@@ -342,10 +344,10 @@ module _
                 go : HasTurn ts → is_behind d (r.aim.state ∷ ss) ts ≡ false
                 go turn = subst (λ us. is_behind d (r.aim.state ∷ ss) us ≡ false) (sym whole)
                     (first-states d r.aim.state turn.to ss turn.rest (not-behind turn.to (length turn.rest) e steps)
-                    (λ same. first-along h unasked_q l found are order ss r.at r.aim r.there along turn.rest turn.in_rest
+                    (λ same. first-along h unasked_q l enough found are order ss r.at r.aim r.there along turn.rest turn.in_rest
                     (subst (λ x. LeadsAlong (unasked_steps h target) l x turn.rest)
-                    (sym (one-place h unasked_q l found are order r.aim.state turn.to (found-right r.at r.aim r.there).inside turn.in_to
-                    same)) turn.leads)
+                    (sym (one-place h unasked_q l enough found are order r.aim.state turn.to (found-right r.at r.aim r.there).inside
+                    turn.in_to same)) turn.leads)
                     (omega (arith, all, few))))
                   where
                     e : IsReached turn.to (length turn.rest)
@@ -518,7 +520,8 @@ module _
           stuck e is =
               let kept = All-contains (λ f. Contains h.states.now f.state) found e.by order.kept (at-contains found e.by e.at e.there) in
               let path = (found-right e.at e.by e.there).path in
-              let p = kept-path h unasked_q h.faultless keeps l path.1 e.by.state kept (itself h unasked_q h.faultless keeps e.by.state) in
+              let p = kept-path h unasked_q h.faultless keeps l enough path.1 e.by.state kept
+              (itself h unasked_q h.faultless keeps e.by.state) in
               is l (at-least-itself l) (suc p.0) (more kept_start e.step (unasked-any p.1.1))
 
           no-turn : {to : State} {n : ℕ} → IsReached to n → ⊥

@@ -1,42 +1,34 @@
--- Groups that no list of the blocks names are named by no list of the policy.
-use Rattle.std.proofs.Common.{◌≡◌, ◌∙◌, Bool, true, false, ◌==◌, List, flat_map, refl, subst, sym}
+-- Groups that no list of some blocks names are unnamed.
+use Rattle.std.proofs.Common.{◌≡◌, ◌∙◌, Bool, true, false, ◌==◌, List, flat_map, refl, sym}
 use Rattle.std.specs.Prelude.{filter}
 use Rattle.std.specs.List.{Contains, list_any}
 use Rattle.std.proofs.lemmas.Bool.{eq-eqb, not-true}
 use Rattle.sudo_grammar.specs.declared.policy.Policy.{Policy}
 use Rattle.sudo_match.specs.declared.people.Group.{Group}
 use Rattle.sudo_grammar.specs.declared.kind.Signed.{Signed}
-use Rattle.sudo_verdict.specs.Grants.{grants}
 use Rattle.review_roots.specs.declared.block.Block.{Block}
-use Rattle.review_roots.specs.Blocks.{AreBlocks, Row, block_row, block_rows, row_of}
-use Rattle.review_roots.specs.Body.Unnamed.{AreIds, IsAbsent, IsUnnamed, block_groups, block_users, fits_by_name, is_named}
+use Rattle.review_roots.specs.Body.Unnamed.{AreIds, IsUnnamed, block_groups, block_users, fits_by_name, is_named}
 use Rattle.review_roots.specs.Body.Unnamed.{named_ids}
 use Rattle.review_roots.specs.KnownGroups.{names_group}
-use Rattle.review_roots.proofs.MemberLemmas.{from-flat, neither, none-in, none-there}
-use Rattle.review_roots.proofs.SearchLemmas.{from-map, in-filter, to-map}
+use Rattle.review_roots.proofs.MemberLemmas.{neither, none-in, none-there}
+use Rattle.review_roots.proofs.SearchLemmas.{in-filter, to-map}
 
 -- a group that no atom of the blocks names is unnamed
 pub unnamed-by :
-    (p : Policy) (bs : List Block) (g : Group) → AreBlocks p bs →
-    is_named (flat_map (block_users p) bs) (flat_map (block_groups p) bs) g ≡ false → IsUnnamed p g
-unnamed-by p bs g tied none x inside =
+    (p : Policy) (bs : List Block) (g : Group) →
+    is_named (flat_map (block_users p) bs) (flat_map (block_groups p) bs) g ≡ false → IsUnnamed p bs g
+unnamed-by p bs g none b inside =
     let parts = neither (list_any (λ (w : Signed). names_group g w.atom) (flat_map (block_users p) bs))
-    (list_any (λ (w : Signed). fits_by_name g w.atom) (flat_map (block_groups p) bs)) none in
-    let row : Contains (flat_map block_rows bs) (row_of p x) =
-    subst (λ rows. Contains rows (row_of p x)) (sym tied) (to-map (row_of p) (grants p) x inside) in
-    let b = from-flat block_rows bs (row_of p x) row in
-    let s = from-map (block_row b.0) b.0.signs.items (row_of p x) b.1.1 in
-    let absent : IsAbsent p g (block_row b.0 s.0).users (block_row b.0 s.0).runas = (
-      none-in (λ (w : Signed). names_group g w.atom) (block_users p) bs b.0 parts.0 b.1.0,
-      none-in (λ (w : Signed). fits_by_name g w.atom) (block_groups p) bs b.0 parts.1 b.1.0,
-    ) in
-    subst (λ (r : Row). IsAbsent p g r.users r.runas) s.2 absent
+    (list_any (λ (w : Signed). fits_by_name g w.atom) (flat_map (block_groups p) bs)) none in (
+      none-in (λ (w : Signed). names_group g w.atom) (block_users p) bs b parts.0 inside,
+      none-in (λ (w : Signed). fits_by_name g w.atom) (block_groups p) bs b parts.1 inside,
+    )
 
 -- groups with the ID of no named one are unnamed
 pub ids-are :
-    (p : Policy) (bs : List Block) (groups : List Group) → AreBlocks p bs →
-    AreIds p groups (named_ids (flat_map (block_users p) bs) (flat_map (block_groups p) bs) groups)
-ids-are p bs groups tied g inside none = unnamed-by p bs g tied (go (named g) refl)
+    (p : Policy) (bs : List Block) (groups : List Group) →
+    AreIds p bs groups (named_ids (flat_map (block_users p) bs) (flat_map (block_groups p) bs) groups)
+ids-are p bs groups g inside none = unnamed-by p bs g (go (named g) refl)
   where
     users : List Signed
     users = flat_map (block_users p) bs

@@ -112,7 +112,7 @@ free-weak-row marks free n a x t is e = go (is_unmarked marks)
     go true = free-weak free n a x t is e
     go false = ap (λ b. b || free_after free n t a) is ∙ free-weak free n a x t is e
 
-weak-signs :
+pub weak-signs :
     (least : Level) (b : Block) (ss : List Sign) (a : Given) → IsWeak least a → list_any (raises least) ss ≡ false →
     IsWeak least (with_rows a (map (block_row b) ss))
 weak-signs least b [] a weak e = weak
@@ -174,15 +174,15 @@ weak-asked p d least u m t g bs tied listed none =
     subst (IsWeak least) (blocks_give p (question_as d u m t g) bs tied)
     (weak-blocks p least (question_as d u m t g) bs nothing (weak-nothing least listed) none)
 
--- a step that is weak has not the least level
-pub weak-level :
-    (least : Level) (a : Given) → is_at_least level.Listed least ≡ true → IsWeak least a → (k : Counted) (l : Level)
+-- a step without the least level has it not where it counts either
+pub low-level :
+    (least : Level) (a : Given) → is_at_least level.Listed least ≡ true → is_at_least least a.level ≡ false → (k : Counted) (l : Level)
     → is_at_least least l ≡ true → is_at_least l (level_for k a) ≡ false
-weak-level least a listed weak k l above = go k
+low-level least a listed low k l above = go k
   where
     below : is_at_least l a.level ≡ false
     below =
-        let less = not-at-least least a.level weak.0 in
+        let less = not-at-least least a.level low in
         let most = leb-true (rank least) (rank l) above in
         below-not l a.level (omega (arith, less, most))
 
@@ -200,6 +200,12 @@ weak-level least a listed weak k l above = go k
     go counted.Any = below
     go counted.Unasked = either a.unasked
     go counted.Free = either a.free
+
+-- a step that is weak has not the least level
+pub weak-level :
+    (least : Level) (a : Given) → is_at_least level.Listed least ≡ true → IsWeak least a → (k : Counted) (l : Level)
+    → is_at_least least l ≡ true → is_at_least l (level_for k a) ≡ false
+weak-level least a listed weak k l above = low-level least a listed weak.0 k l above
 
 pub any-weaker : {X : Type 0} (f g : X → Bool) → ((x : X) → f x ≡ false → g x ≡ false) → (xs : List X) → list_any f xs ≡ false
     → list_any g xs ≡ false

@@ -14,3 +14,4 @@ pub mod Naming
 pub mod Passing
 pub mod May
 pub mod Settled
+pub mod Deciding

@@ -6,6 +6,7 @@ ghost use Rattle.review_roots.specs.Blocks.{AreBlocks, block_resolves, is_for};
 ghost use Rattle.review_roots.specs.Body.Alike.{AreFirsts, host_list};
 ghost use Rattle.review_roots.specs.Body.Candidates.{AreCandidates, has_state, states_of};
 ghost use Rattle.review_roots.specs.Order.{IsInOrder};
+ghost use Rattle.review_roots.specs.Body.Deciding.{deciding};
 ghost use Rattle.review_roots.specs.Body.Kept.{kept_states};
 ghost use Rattle.review_roots.specs.Body.Raising.{block_raises, indices, passes_at};
 ghost use Rattle.review_roots.specs.Body.Unnamed.{AreIds};
@@ -40,7 +41,7 @@ pub struct HostSteps<'r, 'a> {
     pub(crate) blocks: &'r [Block<'a>],
     // The indices of the blocks that raise.
     pub(crate) raising: &'r [usize],
-    // The IDs of the groups that a list names.
+    // The IDs of the groups that a list of a block names that decides.
     pub(crate) ids: &'r [u32],
     // The states that stand for all, in their order.
     pub(crate) states: &'r [State],
@@ -55,7 +56,7 @@ pub struct HostSteps<'r, 'a> {
     ghost here: { on.items ≡ map (is_for checked.now host.now) blocks.now },
     ghost covered: { AreCandidates checked.now directory.now groups.now least blocks.now
         states.now candidates.now },
-    ghost unnamed: { AreIds checked.now groups.now ids.now },
+    ghost unnamed: { AreIds checked.now (deciding least blocks.now) groups.now ids.now },
     ghost kept: { (s : TheState) → has_state states.now s
         ≡ has_state (kept_states directory.now groups.now ids.now) s },
     ghost states_order: { IsInOrder directory.now states.now },

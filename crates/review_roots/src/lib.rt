@@ -11,6 +11,7 @@ mod block;
 mod blocks;
 mod candidate;
 mod chains;
+mod deciding;
 mod effect;
 mod firsts;
 mod given;

@@ -24,8 +24,8 @@ fn raises(least: Level, sign: Sign) -> bool
     !sign.negated && (sign.all || Level::Listed.is_at_least(least))
 }
 
-// Whether a sign of the block raises.
-fn block_raises(least: Level, block: &Block<'_>) -> bool
+/// Whether a sign of the block raises.
+pub(crate) fn block_raises(least: Level, block: &Block<'_>) -> bool
     ensures { result ≡ spec.block_raises least block.now }
 {
     block.signs.iter().any(|sign| raises(least, *sign))

@@ -6,6 +6,7 @@ ghost use Rattle.review_roots.specs.Blocks.{AreBlocks, block_resolves};
 ghost use Rattle.review_roots.specs.Body.Alike.{AreFirsts, host_list};
 ghost use Rattle.review_roots.specs.Body.Candidates.{AreCandidates, has_state, states_of};
 ghost use Rattle.review_roots.specs.Order.{IsInOrder};
+ghost use Rattle.review_roots.specs.Body.Deciding.{deciding};
 ghost use Rattle.review_roots.specs.Body.Kept.{kept_states};
 ghost use Rattle.review_roots.specs.Body.Naming.{AreRows, IsBase};
 ghost use Rattle.review_roots.specs.Body.Raising.{block_raises, indices};
@@ -20,6 +21,7 @@ use crate::base::{Base, base_of};
 use crate::block::Block;
 use crate::blocks::blocks_of;
 use crate::candidate::{Candidate, hopeful};
+use crate::deciding::deciding;
 use crate::ground::Ground;
 use crate::kept::kept_states;
 use crate::naming::naming;
@@ -49,7 +51,7 @@ pub struct Rules<'a> {
     pub(crate) raising: Vec<usize>,
     // For some blocks, the index of an earlier one with the same host list.
     pub(crate) alike: Vec<usize>,
-    // The IDs of the groups that a list names.
+    // The IDs of the groups that a list of a block names that decides.
     pub(crate) ids: Vec<u32>,
     // The states that stand for all, in their order.
     pub(crate) states: Vec<State>,
@@ -63,7 +65,7 @@ pub struct Rules<'a> {
     ghost resolve: { IsTrue (list_all (block_resolves checked.now) blocks.items) },
     ghost covered: { AreCandidates checked.now directory.now groups.now least blocks.items
         states.items candidates.items },
-    ghost unnamed: { AreIds checked.now groups.now ids.items },
+    ghost unnamed: { AreIds checked.now (deciding least blocks.items) groups.now ids.items },
     ghost kept: { (s : TheState) → has_state states.items s
         ≡ has_state (kept_states directory.now groups.now ids.items) s },
     ghost states_order: { IsInOrder directory.now states.items },
@@ -168,7 +170,7 @@ impl<'a> Rules<'a> {
             alike: users.as_slice(),
         };
         directory.has_no_fault();
-        let ids = named_ids(alloc, checked, &blocks, groups)?;
+        let ids = named_ids(alloc, checked, deciding(least, &blocks), groups)?;
         let mut states = kept_states(alloc, directory, groups, &ids)?;
         sort_states(directory, &mut states)?;
         let Gathered { candidates, places } = gather(alloc, ground, &states)?;

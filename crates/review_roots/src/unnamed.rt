@@ -1,8 +1,8 @@
-//! The groups that no list of a policy names.
+//! The groups that no list of some blocks names.
 ghost use Rattle.std.specs.Prelude.{◌≡◌, ◌==◌, ◌++◌, IfOk, IsTrue, OnOk, flat_map, length, option_copied};
 ghost use Rattle.std.specs.List.{list_all, list_any};
 ghost use Rattle.sudo_policy.specs.Resolving.{list_resolves, runas_resolves};
-ghost use Rattle.review_roots.specs.Blocks.{AreBlocks, block_resolves};
+ghost use Rattle.review_roots.specs.Blocks.{block_resolves};
 ghost use Rattle.review_roots.specs.KnownGroups as known;
 ghost use Rattle.review_roots.specs.Body.Unnamed as spec;
 
@@ -192,9 +192,8 @@ pub(crate) fn named_ids(
     blocks: &[Block<'_>],
     groups: &[Group],
 ) -> Result<Vec<u32>, AllocError>
-    requires tied { AreBlocks checked.now blocks.now }
-    requires resolve { IsTrue (list_all (block_resolves checked.now) blocks.now) }
-    ensures { IfOk result (λ ids. spec.AreIds checked.now groups.now ids.items) }
+    requires { IsTrue (list_all (block_resolves checked.now) blocks.now) }
+    ensures { IfOk result (λ ids. spec.AreIds checked.now blocks.now groups.now ids.items) }
 {
     let atoms = GroupAtoms {
         users: users_of(alloc, checked, blocks)?,

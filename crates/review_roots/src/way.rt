@@ -1,9 +1,10 @@
 //! A chain of steps to a target, with the row that allows its first step, and whose passwords it asks for.
-ghost use Rattle.std.specs.Prelude.{◌≡◌, ◌<◌, All, IfOk, Some, length, slice_get};
+ghost use Rattle.std.specs.Prelude.{◌≡◌, ◌<◌, All, IfOk, IsTrue, Some, length, slice_get};
 ghost use Rattle.std.specs.List.{Contains};
 ghost use Rattle.review_roots.specs.Sought.{steps_of};
 ghost use Rattle.review_roots.specs.Body.Found.{AreFound, AreGiven, AreOrdered, PointBack, found_states};
 ghost use Rattle.review_roots.specs.Body.Passing.{HasMarks, HasPassword, HasRow, IsAlong, IsTraced, LeadsWhole};
+ghost use Rattle.review_roots.specs.Ranks.{is_at_least};
 ghost use Rattle.review_roots.specs.Ways.{IsChain, password_name, step_password, worse};
 ghost use Rattle.review_roots.specs.declared.search.Found.{Found as TheFound};
 ghost use Rattle.review_roots.specs.declared.search.Sought.{Sought as TheSought};
@@ -140,6 +141,7 @@ pub(crate) fn way_of(
     found: &[Found],
     index: usize,
 ) -> Result<Way, AllocError>
+    requires level { IsTrue (is_at_least steps.now.least level) }
     requires back { PointBack found.now }
     requires given { AreGiven steps.now found.now }
     requires inside { index < length found.now }

@@ -9,6 +9,7 @@ use Rattle.sudo_match.specs.declared.people.Group.{Group}
 use Rattle.sudo_match.specs.declared.people.Person.{Person}
 use Rattle.sudo_match.specs.KnownRows.{KnownRows}
 use Rattle.sudo_verdict.specs.RunasForms.{has_group}
+use Rattle.review_roots.specs.declared.block.Block.{Block}
 use Rattle.review_roots.specs.declared.state.State.{State}
 use Rattle.review_roots.specs.Order.{state_cmp}
 use Rattle.review_roots.specs.States.{all_states, group_at, state_with, states_with}
@@ -77,11 +78,11 @@ abbrev pub kept_states : KnownRows → List Group → List ℕ → List State
 kept_states d groups ids =
     kept_by d groups (named_indices ids groups (length groups)) (unnamed_indices ids groups (length groups))
 
--- the states are among all, each other one is alike to one of them that does not go behind it, and each user without an added group is
--- there
-pub record AreKept (p : Policy) (d : KnownRows) (groups : List Group) (kept : List State) : Type 0 where
+-- the states are among all, each other one is alike to one of them for these blocks, which does not go behind it, and each user without
+-- an added group is there
+pub record AreKept (p : Policy) (bs : List Block) (d : KnownRows) (groups : List Group) (kept : List State) : Type 0 where
   pub ids : List ℕ
-  pub unnamed : AreIds p groups ids
+  pub unnamed : AreIds p bs groups ids
   pub inside : All (Contains (all_states (length d.people) (length groups))) kept
   pub covers : (s : State) → Contains (all_states (length d.people) (length groups)) s
       → (t : State) × (Contains kept t × (AreAlike d groups ids s t × (is_gt (state_cmp d t s) ≡ false)))

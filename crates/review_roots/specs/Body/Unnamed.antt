@@ -1,4 +1,4 @@
--- Groups that no list of a policy names; only proofs of bodies need these definitions.
+-- Groups that no list of some blocks of a policy names; only proofs of bodies need these definitions.
 use Rattle.std.specs.Prelude.{◌≡◌, ◌==◌, ℕ, Bool, false, true, not, ◌||◌, List, [], ◌++◌, bytes_eq, filter, map, slice_get}
 use Rattle.std.specs.Prelude.{Option, Some, None, option_copied}
 use Rattle.std.specs.List.{list_any, range_with_len, Contains}
@@ -11,7 +11,6 @@ use Rattle.sudo_grammar.specs.declared.policy.Policy.{Policy}
 use Rattle.sudo_grammar.specs.declared.policy.Runas.{Runas}
 use Rattle.sudo_match.specs.declared.people.Group.{Group}
 use Rattle.sudo_policy.specs.Written.{written_form}
-use Rattle.sudo_verdict.specs.Grants.{Grant, grants}
 use Rattle.review_roots.specs.declared.block.Block.{Block}
 use Rattle.review_roots.specs.KnownGroups.{list_names}
 
@@ -47,9 +46,9 @@ user_atoms p users r = written_form kind.User p users ++ runas_users p r
 abbrev pub IsAbsent : Policy → Group → List Member → Option Runas → Type 0
 IsAbsent p g users r = (list_names g (user_atoms p users r) ≡ false) × (lists_group g (runas_groups p r) ≡ false)
 
--- no list of users, of runas users or of runas groups of the policy names the group
-abbrev pub IsUnnamed : Policy → Group → Type 0
-IsUnnamed p g = (x : Grant) → Contains (grants p) x → IsAbsent p g x.users x.runas
+-- no list of users, of runas users or of runas groups of the blocks names the group
+abbrev pub IsUnnamed : Policy → List Block → Group → Type 0
+IsUnnamed p bs g = (b : Block) → Contains bs b → IsAbsent p g b.users.now (option_copied b.runas)
 
 -- ---- The same, by blocks and by IDs
 
@@ -72,8 +71,8 @@ abbrev pub is_unnamed : List ℕ → Group → Bool
 is_unnamed ids g = not (list_any (λ i. i == g.gid) ids)
 
 -- the groups that have none of these IDs are unnamed
-abbrev pub AreIds : Policy → List Group → List ℕ → Type 0
-AreIds p groups ids = (g : Group) → Contains groups g → is_unnamed ids g ≡ true → IsUnnamed p g
+abbrev pub AreIds : Policy → List Block → List Group → List ℕ → Type 0
+AreIds p bs groups ids = (g : Group) → Contains groups g → is_unnamed ids g ≡ true → IsUnnamed p bs g
 
 -- there is a group, and it has none of these IDs
 abbrev pub unnamed_if : List ℕ → Option Group → Bool

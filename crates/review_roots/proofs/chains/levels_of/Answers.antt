@@ -13,7 +13,7 @@ chains_at-requires-clause-any c =
     let h = c.args.steps.now in
     let q = any_sought c.args.target in
     let found = c.in_ok-all.all.found.items in
-    found-among h q h.faultless (host-keeps h) level.All found
+    found-among h q h.faultless (host-keeps h) level.All (all-best h.least) found
     (all-found h.directory.now (kept_steps h q) level.All level.All (length found) found
     (states_of (map (λ k. k.now) c.in_ok-all.all.left.items))
     (c.in_ok-all.ensures.search level.All (all-best h.least) (at-least-itself level.All) (none-missing h c.args.target level.All))

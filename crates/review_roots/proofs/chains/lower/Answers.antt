@@ -14,7 +14,7 @@ returns-then-not-branch c = λ asked.
     let found = c.args.above.now.found.items in
     let left = states_of (map (λ k. k.now) c.args.above.now.left.items) in
     let search = c.requires.1.1 in
-    complete-among h q h.faultless (host-keeps h) c.args.level found
+    complete-among h q h.faultless (host-keeps h) c.args.level asked found
     (none-further (kept_steps h q) h.least c.args.level asked found left search.covered search.away (length found) (omega arith)
     (c.in_ok-has_step.ensures c.if-not-branch.true))
 
@@ -33,7 +33,7 @@ returns c =
         (l, c.in_ok-spread.ensures.search h.least (at-least-itself h.least) asked (none-missing h c.args.target h.least)),
       );
       given = c.in_ok-spread.ensures.given;
-      found = found-among h q h.faultless (host-keeps h) l found
+      found = found-among h q h.faultless (host-keeps h) l asked found
           (all-found h.directory.now (kept_steps h q) l l (length found) found left
           (c.in_ok-spread.ensures.search l asked (at-least-itself l) (none-missing h c.args.target l)) (omega arith));
       order = ordered-found h q l l (length found) found left

@@ -14,7 +14,7 @@ returns-clause-found c =
     let l = c.args.level in
     let found = c.in_ok-found.field-0.found.items in
     let search = c.in_ok-found.ensures.search l c.requires.level (at-least-itself l) c.requires.starts in
-    found-among h q h.faultless (host-keeps h) l found
+    found-among h q h.faultless (host-keeps h) l c.requires.level found
     (all-found h.directory.now (kept_steps h q) l l (length found) found
     (states_of (map (λ c. c.now) c.in_ok-found.field-0.left.items)) search
     (omega arith))

@@ -11,8 +11,8 @@ returns c =
     let groups = c.args.groups.now in
     let users = c.in_ok-users_of.field-0.items in
     IfOk-weaker c.ids_by.result _ _
-    (λ ids is. subst (AreIds p groups)
+    (λ ids is. subst (AreIds p c.args.blocks.now groups)
     (sym (is ∙ ap (λ (ws : List Signed). named_ids users ws groups) c.in_ok-groups_of.ensures
     ∙ ap (λ (ws : List Signed). named_ids ws (flat_map (block_groups p) c.args.blocks.now) groups) c.in_ok-users_of.ensures))
-    (ids-are p c.args.blocks.now groups c.requires.tied))
+    (ids-are p c.args.blocks.now groups))
     c.ids_by.ensures

@@ -5,6 +5,7 @@ use Rattle.review_roots.specs.declared.candidate.Candidate.{Candidate}
 use Rattle.review_roots.specs.declared.state.State.{State}
 use Rattle.review_roots.specs.Blocks.{AreBlocks, block_resolves}
 use Rattle.review_roots.specs.Body.Candidates.{AreCandidates, has_state, states_of}
+use Rattle.review_roots.specs.Body.Deciding.{deciding}
 use Rattle.review_roots.specs.Body.Kept.{kept_states}
 use Rattle.review_roots.specs.Body.Raising.{block_raises, indices}
 use Rattle.review_roots.specs.Body.Unnamed.{AreIds}
@@ -30,7 +31,8 @@ invariant_of-result c =
       covered = subst (λ (bs : List Block). AreCandidates p d groups r.least bs c.as_slice-3.result.now c.as_slice-4.result.now) blocks
           (subst (λ (ss : List State). AreCandidates p d groups r.least r.blocks.items ss c.as_slice-4.result.now) states
           (subst (λ (cs : List Candidate). AreCandidates p d groups r.least r.blocks.items r.states.items cs) candidates r.covered));
-      unnamed = subst (AreIds p groups) ids r.unnamed;
+      unnamed = subst (λ (bs : List Block). AreIds p (deciding r.least bs) groups c.as_slice-2.result.now) blocks
+          (subst (AreIds p (deciding r.least r.blocks.items) groups) ids r.unnamed);
       kept = λ s.
           ap (λ (ss : List State). has_state ss s) (sym states) ∙ r.kept s
           ∙ ap (λ (is : List ℕ). has_state (kept_states d groups is) s) ids;
