@@ -13,3 +13,4 @@ pub mod PairSteps
 pub mod QuietSteps
 pub mod ChangeSteps
 pub mod NotedSteps
+pub mod RecordSteps
