@@ -129,7 +129,7 @@ class Contracts(unittest.TestCase):
 
     def test_the_readme(self) -> None:
         rows = list(rows_of("README.md", ["Guarantee", "Function", "Clauses", "Definitions"]))
-        self.assertEqual(len(rows), 24)
+        self.assertEqual(len(rows), 25)
         for _, (_, functions, clauses, definitions) in rows:
             self.holds("", functions, clauses, definitions)
 
@@ -239,7 +239,7 @@ class Examples(unittest.TestCase):
 
     @needs_review
     def test_the_review(self) -> None:
-        self.assertEqual(self.shows(text_of("docs/REVIEW.md").splitlines()), 18)
+        self.assertEqual(self.shows(text_of("docs/REVIEW.md").splitlines()), 19)
 
     @needs_review
     def test_the_manual_page_of_the_review(self) -> None:

@@ -1,19 +1,39 @@
 -- The contracts of a comparison by requests from those of its parts.
-use Rattle.std.proofs.Common.{◌≡◌, ℕ, List, Result, Ok, Err, subst, sym, ◌∙◌}
+use Rattle.std.proofs.Common.{◌≡◌, ◌<◌, ◌∙◌, ℕ, zero, suc, List, [], ◌∷◌, Option, Some, Result, Ok, Err, ap, arith, get_or, length, refl}
+use Rattle.std.proofs.Common.{slice_get, subst, sym}
 use Rattle.std.specs.Prelude.{IfErr, IfOk}
-use Rattle.audit_commands.specs.Auditing.{IsUnreported}
+use Rattle.audit_collect.specs.declared.arrival.Answer.{Answer}
+use Rattle.audit_collect.specs.declared.report.Report.{Report}
+use Rattle.audit_collect.specs.declared.report.SenderReport.{SenderReport}
+use Rattle.audit_commands.specs.Auditing.{Answers, IsUnreported}
 use Rattle.audit_commands.specs.declared.fault.ReportFault.{ReportFault}
 use Rattle.audit_commands.specs.declared.fault.ReportFault.TheVariants as reports
+use Rattle.audit_files.specs.Feeding.{Ahead}
 use Rattle.run_base.specs.declared.run_output.RunOutput.{RunOutput}
 use Rattle.sudo_grammar.specs.declared.policy.Policy.{Policy}
 use Rattle.sudo_match.specs.KnownRows.{KnownRows}
-use Rattle.review_commands.specs.Body.Changing.{AreJudged, IsFaultOfPair}
+use Rattle.sudo_verdict.specs.Verdicts.{verdict_of}
+use Rattle.review_commands.specs.Body.Changing.{AreJudged, HasVerdicts, IsFaultOfPair}
 use Rattle.review_commands.specs.Body.Surveying.{IsNotedTable}
-use Rattle.review_commands.specs.Changes.{AreChanges, AreNoChanges, ChangeInputs}
+use Rattle.review_commands.specs.Changes.{AreChanges, AreNoChanges, ChangeInputs, change_workers}
 use Rattle.review_commands.specs.Comparing.{IsNotPaired, IsPaired}
 use Rattle.review_commands.specs.declared.ending.NotedOutput.{NotedOutput}
 use Rattle.review_commands.specs.declared.fault.TableFault.{TableFault}
 use Rattle.review_commands.specs.declared.fault.TableFault.TheVariants as tables
+
+at-index : {X : Type 0} (xs : List X) (i : ℕ) (x : X) → i < length xs → slice_get xs i ≡ Some (get_or xs i x)
+at-index [] i x less = absurd (omega (arith, less))
+at-index (y ∷ ys) zero x less = refl
+at-index (y ∷ ys) (suc i) x less = at-index ys i x (omega (arith, less))
+
+-- the verdicts of a report of an audit are those of its policy
+pub verdicts-of : (old : Policy) (d : KnownRows) (sources : List (List ℕ)) (readable_bytes : List (Option Ahead)) (report : Report) →
+    Answers old d sources readable_bytes change_workers (Ok report) → HasVerdicts old d report
+verdicts-of old d sources readable_bytes report answers = λ i s less j a there.
+    let row = get_or report.senders i s in
+    let found = (answers.audited.outcome.1.1.rows i row (at-index report.senders i s less)).answers j (get_or row.answers j a)
+    (at-index row.answers j a there) in
+    ap (λ (x : Answer). x.verdict) found.1.1.1 ∙ sym (ap (λ (x : Answer). verdict_of old d x.request) found.1.1.1)
 
 -- without a pair there are no changes
 pub unpaired-of : (given : ChangeInputs) (fault : TableFault) (r : ReportFault) → IsFaultOfPair fault r

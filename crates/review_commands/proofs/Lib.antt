@@ -12,3 +12,5 @@ pub mod RootSteps
 pub mod PairSteps
 pub mod QuietSteps
 pub mod ChangeSteps
+pub mod NotedSteps
+pub mod RecordSteps

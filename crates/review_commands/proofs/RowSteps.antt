@@ -18,6 +18,14 @@ line_text : (sender field : List ℕ) (rest : List (List ℕ))
 unfolding is_blank
 line_text sender field rest = refl
 
+-- a text behind which the fields of two lists were put, one list after the other
+pub both-lists : (old one new : List ℕ) (xs ys : List (List ℕ)) → one ≡ old ++ fields_text default_writer xs
+    → new ≡ one ++ fields_text default_writer ys → new ≡ old ++ fields_text default_writer (xs ++ ys)
+both-lists old one new xs ys first second =
+    second ∙ ap (λ (t : List ℕ). t ++ fields_text default_writer ys) first
+    ∙ append_assoc old (fields_text default_writer xs) (fields_text default_writer ys)
+    ∙ ap (λ (t : List ℕ). old ++ t) (sym (fields_text-append xs ys))
+
 regrouped : (s a b c d e : List ℕ) → ((((s ++ a) ++ b) ++ c) ++ d) ++ e ≡ s ++ ((a ++ (b ++ (c ++ d))) ++ e)
 regrouped s a b c d e = simp append_assoc
 

@@ -1,4 +1,4 @@
--- The requests to which two policies answer differently: the input, the output, and its faults.
+-- The requests to which two policies answer differently, or may do so: the input, the output, and its faults.
 use Rattle.std.specs.Prelude.{◌≡◌, ⊤, ℕ, Bool, true, false, not, ◌&&◌, ◌||◌, if◌then◌else◌, List, [], ◌∷◌, ◌++◌, codes, flat_map}
 use Rattle.std.specs.Prelude.{Option, None, Some, get_or, is_some, Ok}
 use Rattle.std.specs.List.{list_any}
@@ -14,10 +14,14 @@ use Rattle.sudo_grammar.specs.declared.policy.Policy.{Policy}
 use Rattle.sudo_grammar.specs.declared.tag.TagPair.{TagPair}
 use Rattle.sudo_grammar.specs.declared.tag.TagPair.TheVariants as pair
 use Rattle.sudo_match.specs.KnownRows.{KnownRows}
+use Rattle.sudo_match.specs.declared.request.Request.{Request}
 use Rattle.sudo_match.specs.declared.request.Tags.{Tags}
 use Rattle.sudo_match.specs.declared.request.Verdict.{Verdict}
 use Rattle.sudo_match.specs.declared.request.Verdict.TheVariants.{Allow}
+use Rattle.sudo_verdict.specs.Grants.{grants}
 use Rattle.sudo_verdict.specs.Verdicts.{verdict_of}
+use Rattle.review_grants.specs.Depends.{depends_text, is_note_grant}
+use Rattle.review_compare.specs.Cases.{cases_of, notes_of, same_cases}
 use Rattle.review_compare.specs.Cells.{answer_between}
 use Rattle.review_compare.specs.declared.answer.Answer.{Answer as Kind}
 use Rattle.review_compare.specs.declared.answer.Answer.TheVariants as answer
@@ -80,6 +84,32 @@ change_if old new (Some kind) = Some (change_by old new kind)
 abbrev pub change_between : Verdict → Verdict → Option Change
 change_between old new = change_if old new (answer_between old new)
 
+-- ---- What depends on notes. The verdicts are those where all noted conditions hold
+
+-- the change of verdicts, if there is one; otherwise there may be a change, unless both policies say the same whichever noted
+-- conditions hold
+abbrev pub change_unless : Bool → Option Change → Option Change
+change_unless same (Some c) = Some c
+change_unless true None = None
+change_unless false None = Some change.May
+
+-- what happens to the request of an answer of the old policy, if anything does or may
+abbrev pub change_to : Policy → Policy → KnownRows → Answer → Option Change
+change_to old new d a = change_unless (same_cases (cases_of old d a.request) (cases_of new d a.request))
+    (change_between a.verdict (verdict_of new d a.request))
+
+-- the names of what the answers of both policies to a request depend on
+abbrev pub request_depends : Policy → Policy → KnownRows → Request → List ℕ
+request_depends old new d r = depends_text (notes_of old new (cases_of old d r) (cases_of new d r))
+
+-- a grant of one of both policies stands for a note
+abbrev pub are_noted : Policy → Policy → Bool
+are_noted old new = list_any is_note_grant (grants old) || list_any is_note_grant (grants new)
+
+-- a last field, where something is noted
+abbrev pub last_field : Bool → List ℕ → List (List ℕ)
+last_field noted text = if noted then text ∷ [] else []
+
 -- ---- The table
 
 abbrev pub change_name : Change → List ℕ
@@ -87,31 +117,32 @@ change_name change.Gained = codes "gained"
 change_name change.GainedAndLost = codes "gained and lost"
 change_name change.Lost = codes "lost"
 change_name change.Other = codes "other"
+change_name change.May = codes "may"
 
--- the first record: the names of the columns
-abbrev pub change_header : List (List ℕ)
-change_header = codes "change" ∷ codes "sender" ∷ codes "number" ∷ codes "user" ∷ codes "host" ∷ codes "runas_user" ∷ codes "runas_group"
-    ∷ codes "command" ∷ codes "arguments" ∷ codes "old_verdict" ∷ codes "new_verdict" ∷ codes "old_tags" ∷ codes "new_tags"
-    ∷ codes "old_place" ∷ codes "new_place" ∷ []
+-- the first record: the names of the columns, the last one where something is noted
+abbrev pub change_header : Bool → List (List ℕ)
+change_header noted = codes "change" ∷ codes "sender" ∷ codes "number" ∷ codes "user" ∷ codes "host" ∷ codes "runas_user"
+    ∷ codes "runas_group" ∷ codes "command" ∷ codes "arguments" ∷ codes "old_verdict" ∷ codes "new_verdict" ∷ codes "old_tags"
+    ∷ codes "new_tags" ∷ codes "old_place" ∷ codes "new_place" ∷ last_field noted (codes "depends")
 
 -- the fields of both verdicts; the files are those of each policy
 abbrev pub verdicts_fields : List (List ℕ) → List (List ℕ) → Verdict → Verdict → List (List ℕ)
 verdicts_fields old_files new_files old new = verdict_word old ∷ verdict_word new ∷ verdict_tags old ∷ verdict_tags new
     ∷ verdict_place old_files old ∷ verdict_place new_files new ∷ []
 
-abbrev pub change_fields : List (List ℕ) → List (List ℕ) → List ℕ → Answer → Verdict → Change → List (List ℕ)
-change_fields old_files new_files sender a new c = change_name c ∷ sender ∷ (asker_fields a.request ++ (asked_fields a.request
-    ++ verdicts_fields old_files new_files a.verdict new))
+abbrev pub change_fields : List (List ℕ) → List (List ℕ) → List ℕ → Answer → Verdict → List (List ℕ) → Change → List (List ℕ)
+change_fields old_files new_files sender a new last c = change_name c ∷ sender ∷ (asker_fields a.request ++ (asked_fields a.request
+    ++ (verdicts_fields old_files new_files a.verdict new ++ last)))
 
 -- the record of a change, if there is one
-abbrev pub record_if : List (List ℕ) → List (List ℕ) → List ℕ → Answer → Verdict → Option Change → List ℕ
-record_if old_files new_files sender a new None = []
-record_if old_files new_files sender a new (Some c) = line (change_fields old_files new_files sender a new c)
+abbrev pub record_if : List (List ℕ) → List (List ℕ) → List ℕ → Answer → Verdict → List (List ℕ) → Option Change → List ℕ
+record_if old_files new_files sender a new last None = []
+record_if old_files new_files sender a new last (Some c) = line (change_fields old_files new_files sender a new last c)
 
--- the record of an answer of the old policy, if the new one answers the request otherwise
+-- the record of an answer of the old policy, if the new one answers the request otherwise, or may do so
 abbrev pub change_record : Policy → Policy → KnownRows → List ℕ → Answer → List ℕ
 change_record old new d sender a = record_if old.files new.files sender a (verdict_of new d a.request)
-    (change_between a.verdict (verdict_of new d a.request))
+    (last_field (are_noted old new) (request_depends old new d a.request)) (change_to old new d a)
 
 -- the records of a sender, in the order of its requests
 abbrev pub sender_changes : Policy → Policy → KnownRows → SenderReport → List ℕ
@@ -119,15 +150,15 @@ sender_changes old new d s = flat_map (change_record old new d s.name) s.answers
 
 -- the header, and each sender's records, in the order of the roster of a report of the old policy
 abbrev pub changes_text : Policy → Policy → KnownRows → Report → List ℕ
-changes_text old new d r = line change_header ++ flat_map (sender_changes old new d) r.senders
+changes_text old new d r = line (change_header (are_noted old new)) ++ flat_map (sender_changes old new d) r.senders
 
--- the new policy answers the request of an answer otherwise
-abbrev pub is_changed : Policy → KnownRows → Answer → Bool
-is_changed new d a = is_some (change_between a.verdict (verdict_of new d a.request))
+-- the new policy answers the request of an answer otherwise, or may do so
+abbrev pub is_changed : Policy → Policy → KnownRows → Answer → Bool
+is_changed old new d a = is_some (change_to old new d a)
 
--- 5 if a request has another answer under the new policy, otherwise 0
-abbrev pub changes_status : Policy → KnownRows → Report → ℕ
-changes_status new d r = if list_any (λ (s : SenderReport). list_any (is_changed new d) s.answers) r.senders then 5 else 0
+-- 5 if a request has a record, otherwise 0
+abbrev pub changes_status : Policy → Policy → KnownRows → Report → ℕ
+changes_status old new d r = if list_any (λ (s : SenderReport). list_any (is_changed old new d) s.answers) r.senders then 5 else 0
 
 -- ---- The command
 
@@ -144,8 +175,8 @@ change_inputs pair sources readable_bytes = record { pair = pair; sources = sour
 abbrev pub change_workers : ℕ
 change_workers = 2
 
--- the output: the table of the requests of an audit under the old policy that the new one answers otherwise, and the lines of
--- the cautions on each policy
+-- the output: the table of the requests of an audit under the old policy that the new one answers otherwise, or may answer
+-- otherwise, and the lines of the cautions on each policy
 pub record AreChanges (given : ChangeInputs) (text notice : List ℕ) (status : ℕ) : Type 0 where
   pub old : Policy
   pub new : Policy
@@ -154,7 +185,7 @@ pub record AreChanges (given : ChangeInputs) (text notice : List ℕ) (status : 
   pub paired : IsPaired given.pair old new directory notice
   pub answers : Answers old directory given.sources given.readable_bytes change_workers (Ok report)
   pub text_is : text ≡ changes_text old new directory report
-  pub status_is : status ≡ changes_status new directory report
+  pub status_is : status ≡ changes_status old new directory report
 
 -- the requests are refused under the pair of policies
 pub record AreNotAnswered (given : ChangeInputs) (fault : ReportFault) : Type 0 where

@@ -10,5 +10,6 @@ pub mod Surveying
 pub mod Expanding
 pub mod Comparing
 pub mod Changes
+pub mod ChangeLaws
 pub mod Words
 pub mod Body

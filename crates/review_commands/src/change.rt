@@ -17,6 +17,8 @@ pub(crate) enum Change {
     Lost,
     /// It is allowed with other tags that change none of this, or is denied where nothing matched, or the reverse.
     Other,
+    /// Both verdicts say the same, and noted conditions decide whether it is answered alike.
+    May,
 }
 
 impl Change {
@@ -29,6 +31,7 @@ impl Change {
             Change::GainedAndLost => b"gained and lost",
             Change::Lost => b"lost",
             Change::Other => b"other",
+            Change::May => b"may",
         }
     }
 }
@@ -97,5 +100,17 @@ pub(crate) fn change_between(old: &Verdict, new: &Verdict) -> Option<Change>
         Some(Answer::Gained) => Some(Change::Gained),
         Some(Answer::Lost) => Some(Change::Lost),
         Some(Answer::Other) => Some(other_change(old, new)),
+    }
+}
+
+/// Returns the change of verdicts, if there is one. Otherwise there may be a change, unless both policies say the same whichever
+/// noted conditions hold.
+pub(crate) fn change_unless(same: bool, change: Option<Change>) -> Option<Change>
+    ensures { result ≡ spec.change_unless same change }
+{
+    match (change, same) {
+        (Some(change), _) => Some(change),
+        (None, true) => None,
+        (None, false) => Some(Change::May),
     }
 }

@@ -1,11 +1,12 @@
-//! `compare --requests`: lists the requests to which two policies answer differently.
+//! `compare --requests`: lists the requests to which two policies answer differently, or may do so.
 ghost use Rattle.std.specs.Prelude.{◌≡◌, ◌≤◌, IfErr, IfOk, map};
 ghost use Rattle.run_base.specs.Endings.{writer_states as sent};
 ghost use Rattle.audit_commands.specs.Auditing.{IsUnreported};
-ghost use Rattle.review_commands.specs.Body.Changing.{AreJudged, IsFaultOfPair};
+ghost use Rattle.review_commands.specs.Body.Changing.{AreJudged, HasVerdicts, IsFaultOfPair};
 ghost use Rattle.review_commands.specs.CautionLines.{report_notices};
+ghost use Rattle.review_commands.specs.ChangeLaws.{MayDepends, UndependingHold, UnlistedSaySame, UnnotedByVerdicts};
 ghost use Rattle.review_commands.specs.Changes.{AreChanges, AreNoChanges, ChangeInputs};
-ghost use Rattle.review_commands.specs.Changes.{change_inputs};
+ghost use Rattle.review_commands.specs.Changes.{change_inputs, changes_status, changes_text};
 ghost use Rattle.review_commands.specs.Comparing.{PairInputs, pair_by};
 ghost use Rattle.review_commands.specs.Endings.{EndsNoted};
 
@@ -14,11 +15,13 @@ use crate::ending::{NotedOutput, end_noted};
 use crate::fault::TableFault;
 use crate::pair::{Pair, noted_pair, read_pair};
 use crate::program_name::PROGRAM;
+use audit_collect::Report;
 use audit_commands::{ReportFault, report_under};
 use audit_files::{Feed, Sink};
 use audit_run::Source;
+use review_compare::{LineCommands, NotedPolicy};
 use run_base::{Files, RunOutput};
-use std::alloc::Global;
+use std::alloc::{AllocError, Global};
 use std::mem;
 use std::sync::Wait;
 use std::thread::Threads;
@@ -40,8 +43,33 @@ fn unpaired(fault: TableFault) -> ReportFault
     }
 }
 
-// Returns the table of the requests of the sources to which both policies answer differently, and the status for it. Forgets
-// the report: the run ends here, and texts of many requests are not freed one by one.
+// Returns the table of the requests of a report of the old policy to which both policies answer differently or may do so, and the
+// status for it.
+fn report_table(alloc: Global, pair: &Pair, report: &Report) -> Result<RunOutput, AllocError>
+    requires { HasVerdicts pair.now.old.policy pair.now.directory report.now }
+    ensures text { IfOk result (λ o. o.text.items ≡ changes_text pair.now.old.policy
+        pair.now.new.policy pair.now.directory report.now) }
+    ensures status { IfOk result (λ o. o.status ≡ changes_status pair.now.old.policy
+        pair.now.new.policy pair.now.directory report.now) }
+{
+    let old = &pair.old.policy;
+    let new = &pair.new.policy;
+    let old_commands = LineCommands::of(alloc, old)?;
+    let new_commands = LineCommands::of(alloc, new)?;
+    let before = NotedPolicy::of(alloc, &old_commands)?;
+    let after = NotedPolicy::of(alloc, &new_commands)?;
+    let index = RuleIndex::of(alloc, new)?;
+    let judges = Judges {
+        old,
+        new,
+        index: &index,
+        directory: &pair.directory,
+    };
+    changes_table(alloc, judges, &before, &after, report)
+}
+
+// Returns the table of the requests of the sources to which both policies answer differently or may do so, and the status for it.
+// Forgets the report: the run ends here, and texts of many requests are not freed one by one.
 fn judged<T: Threads + Wait + Sync, R: Feed + Drop + Send>(
     alloc: Global,
     rt: &T,
@@ -58,17 +86,8 @@ fn judged<T: Threads + Wait + Sync, R: Feed + Drop + Send>(
         names readable_bytes 2) }
 {
     let old = &pair.old.policy;
-    let new = &pair.new.policy;
-    let directory = &pair.directory;
-    let report = report_under(alloc, rt, old, directory, sources, WORKERS)?;
-    let index = RuleIndex::of(alloc, new)?;
-    let judges = Judges {
-        old,
-        new,
-        index: &index,
-        directory,
-    };
-    let table = changes_table(alloc, judges, &report)?;
+    let report = report_under(alloc, rt, old, &pair.directory, sources, WORKERS)?;
+    let table = report_table(alloc, pair, &report)?;
     mem::forget(report);
     Ok(table)
 }
@@ -114,8 +133,9 @@ fn changes_output<
     }
 }
 
-/// Prints on `out` the requests of the sources to which the policies of two files answer differently: what the change does, the
-/// sender and its request, both verdicts, their tags and the places of the grants that decided, in the order of a report. Then
+/// Prints on `out` the requests of the sources to which the policies of two files answer differently, or may do so by noted
+/// conditions: what the change does, the sender and its request, both verdicts, their tags and the places of the grants that
+/// decided, in the order of a report; and where a grant of one of the policies stands for a note, what the answers depend on. Then
 /// prints on `err` for each policy with cautions the line that counts them.
 ///
 /// Returns the exit status: 0; 5 if there is such a request; 1 if a policy is refused or has errors; 3 if the users, the hosts
@@ -157,3 +177,13 @@ pub fn changes_run<
     );
     end_noted(alloc, PROGRAM, ended, out, err)
 }
+
+/// Where a request has no record, both policies say the same to it, whichever noted conditions hold. Where nothing is named on which
+/// the answers depend, the verdicts hold whichever do; a change that may be depends on something that is named. Where no grant stands
+/// for a note, the verdicts alone say which requests have a record. Has no effect: its contract is a law.
+pub fn changes_hold()
+    ensures unlisted { UnlistedSaySame }
+    ensures held { UndependingHold }
+    ensures may { MayDepends }
+    ensures unnoted { UnnotedByVerdicts }
+{}

@@ -33,7 +33,7 @@ mod who;
 mod words;
 
 pub use cautions::cautions_run;
-pub use changes::changes_run;
+pub use changes::{changes_hold, changes_run};
 pub use check::check_run;
 pub use compare::{compare_run, quiet_comparisons_say_same};
 pub use expand::expand_run;

@@ -44,15 +44,17 @@ fn files_below<'a>(
     }
 }
 
-/// Returns the files of a policy, with their masked texts: a note stands for each digest, time and root, and the members for each
-/// netgroup that the file of netgroups has. Returns why that file says nothing, if it does not, and `Unopened` with `Memory` if
-/// allocation failed.
-pub(crate) fn policy_files<'a>(
+/// The files of a policy, with their masked texts.
+pub(crate) type MaskedFiles<'a> = Masked<PolicyFiles<'a>>;
+
+// Returns the files of this machine, or those below a folder of it, with their masked texts.
+fn masked_files<'a>(
     rt: &'a HostRuntime,
-    policy: PolicyPath<'_>,
+    root: Option<&str>,
+    netgroups: Option<&str>,
 ) -> Result<MaskedFiles<'a>, MachineFileFault> {
-    let netgroups = netgroups_at(rt, policy.netgroups)?;
-    let files = files_below(rt, policy.root)?;
+    let netgroups = netgroups_at(rt, netgroups)?;
+    let files = files_below(rt, root)?;
     let readable = Readable {
         noted: true,
         netgroups,
@@ -60,29 +62,23 @@ pub(crate) fn policy_files<'a>(
     Ok(Masked::new(files, readable))
 }
 
-// Returns the files of this machine, with their masked texts. Digests, times and roots stay if they are not noted, and the reader
-// refuses them.
-fn machine_files<'a>(
+/// Returns the files of a policy, with their masked texts: a note stands for each digest, time and root, and the members for each
+/// netgroup that the file of netgroups has. Returns why that file says nothing, if it does not, and `Unopened` with `Memory` if
+/// allocation failed.
+pub(crate) fn policy_files<'a>(
     rt: &'a HostRuntime,
-    netgroups: Option<&str>,
-    noted: bool,
+    policy: PolicyPath<'_>,
 ) -> Result<MaskedFiles<'a>, MachineFileFault> {
-    let netgroups = netgroups_at(rt, netgroups)?;
-    let readable = Readable { noted, netgroups };
-    Ok(Masked::new(PolicyFiles::Machine(Disk::new(rt)), readable))
+    masked_files(rt, policy.root, policy.netgroups)
 }
-
-/// The files of a policy, with their masked texts.
-pub(crate) type MaskedFiles<'a> = Masked<PolicyFiles<'a>>;
 
 /// Returns the files of this machine twice, for two policies that are compared. Returns the faults of `policy_files`.
 pub(crate) fn pair_files<'a>(
     rt: &'a HostRuntime,
     netgroups: Option<&str>,
-    noted: bool,
 ) -> Result<(MaskedFiles<'a>, MaskedFiles<'a>), MachineFileFault> {
-    let old = machine_files(rt, netgroups, noted)?;
-    let new = machine_files(rt, netgroups, noted)?;
+    let old = masked_files(rt, None, netgroups)?;
+    let new = masked_files(rt, None, netgroups)?;
     Ok((old, new))
 }
 

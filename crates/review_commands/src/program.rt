@@ -271,7 +271,7 @@ fn run_subjects(rt: &HostRuntime, paths: Paths<'_>) -> u8 {
 
 // Lists what a change of a policy does, and returns the exit status.
 fn run_compare(rt: &HostRuntime, paths: PairPaths<'_>, names: ScopeNames<'_>) -> u8 {
-    let (mut before, mut after) = match pair_files(rt, paths.netgroups, true) {
+    let (mut before, mut after) = match pair_files(rt, paths.netgroups) {
         Ok(pair) => pair,
         Err(fault) => return refused(rt, fault),
     };
@@ -297,15 +297,15 @@ fn run_compare(rt: &HostRuntime, paths: PairPaths<'_>, names: ScopeNames<'_>) ->
     )
 }
 
-// Lists the requests that a change of a policy answers otherwise, and returns the exit status. `threads` is the runtime, if it
-// can start threads.
+// Lists the requests that a change of a policy answers otherwise or may answer otherwise, and returns the exit status. `threads` is
+// the runtime, if it can start threads.
 fn run_changes<T: Threads + Wait + Sync>(
     rt: &HostRuntime,
     threads: &T,
     paths: PairPaths<'_>,
     words: &[&str],
 ) -> u8 {
-    let (mut before, mut after) = match pair_files(rt, paths.netgroups, false) {
+    let (mut before, mut after) = match pair_files(rt, paths.netgroups) {
         Ok(pair) => pair,
         Err(fault) => return refused(rt, fault),
     };

@@ -10,4 +10,4 @@ returns c =
     let request = c.args.answer.now.request in
     row_of c.args.text.now.items _ _ _ _ _ (field_text default_writer c.name.result.now) (change_name c.args.change) c.args.sender.now
     (asker_fields request) (asked_fields request) _ c.in_ok-push_field.ensures (ap (field_text default_writer) c.name.ensures)
-    c.in_ok-push_head.ensures c.in_ok-push_asked.ensures c.in_ok-push_verdicts.ensures c.in_ok-push.ensures.items
+    c.in_ok-push_head.ensures c.in_ok-push_asked.ensures c.in_ok-push_end.ensures c.in_ok-push.ensures.items

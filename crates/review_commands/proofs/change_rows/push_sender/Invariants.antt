@@ -11,6 +11,7 @@ invariant-loop-answer l = record {
       (drop l.answer-index l.answer-items)
       ≡ l.initial.text.items
       ++ flat_map (change_record l.judges.old.now l.judges.new.now l.judges.directory.now l.sender.name) l.answer-items;
-  changed : (l.changed || list_any (is_changed l.judges.new.now l.judges.directory.now) (drop l.answer-index l.answer-items))
-      ≡ list_any (is_changed l.judges.new.now l.judges.directory.now) l.answer-items;
+  changed : (l.changed || list_any (is_changed l.judges.old.now l.judges.new.now l.judges.directory.now)
+      (drop l.answer-index l.answer-items))
+      ≡ list_any (is_changed l.judges.old.now l.judges.new.now l.judges.directory.now) l.answer-items;
 }
