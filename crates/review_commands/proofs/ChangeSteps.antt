@@ -31,9 +31,9 @@ pub verdicts-of : (old : Policy) (d : KnownRows) (sources : List (List ℕ)) (re
     Answers old d sources readable_bytes change_workers (Ok report) → HasVerdicts old d report
 verdicts-of old d sources readable_bytes report answers = λ i s less j a there.
     let row = get_or report.senders i s in
-    let found = (answers.audited.outcome.1.1.rows i row (at-index report.senders i s less)).answers j (get_or row.answers j a)
+    let found = (answers.audited.outcome.2.rows i row (at-index report.senders i s less)).answers j (get_or row.answers j a)
     (at-index row.answers j a there) in
-    ap (λ (x : Answer). x.verdict) found.1.1.1 ∙ sym (ap (λ (x : Answer). verdict_of old d x.request) found.1.1.1)
+    ap (λ (x : Answer). x.verdict) found.3 ∙ sym (ap (λ (x : Answer). verdict_of old d x.request) found.3)
 
 -- without a pair there are no changes
 pub unpaired-of : (given : ChangeInputs) (fault : TableFault) (r : ReportFault) → IsFaultOfPair fault r
