@@ -67,7 +67,7 @@ class NotedRequests(Drawn):
         self.write("requests", f"{REQUESTS_HEADER}{rows}close,{len(ASKED)},,,,,\n")
 
     def changed(self, old: str, new: str, is_noted: bool) -> dict[int, Row]:
-        """Returns the rows of a comparison of two policies by the numbers of their requests. Fails where it is none."""
+        """Returns the rows of a comparison, by the numbers of their requests. Fails if the command does not print a table."""
         self.write("old", old)
         self.write("new", new)
         line = [REVIEW, "compare", "old", "new", "--users", "users", "--hosts", "hosts", "--requests", "s=requests"]
@@ -96,7 +96,7 @@ class NotedRequests(Drawn):
         return zip(self.said(before, "old"), self.said(after, "new"))
 
     def check(self, old: Sequence[Rule], new: Sequence[Rule], rows: Mapping[int, Row]) -> None:
-        """Fails where a version of the policies contradicts a row of their comparison, or that there is none."""
+        """Fails if a version of the policies contradicts a row, or answers a request without a row otherwise."""
         for met in met_or_not([*old, *new]):
             with self.subTest(met=met):
                 for number, (was, now) in enumerate(self.both(old, new, met), 1):
