@@ -249,7 +249,7 @@ module _ (h : HostSteps) (q : Sought) (k : Level) (asked : is_at_least h.least k
       by_candidate s c inside at away true is false may true begins =
           inr (inr (subst (IsStuck g k) at (mute-stuck c.state
           (no-step-counts c (All-contains (IsCandidate h) h.candidates.now c h.covered.known inside)
-          (neither ((length h.groups.now == 0) && is_at_least level.AllBut h.least)
+          (neither (h.few && is_at_least level.AllBut h.least)
           (may_count h.on.items h.blocks.now h.least q.counted c.listed.items) may).1
           (ap g.goal at ∙ away)))))
       by_candidate s c inside at away false is n may true begins =

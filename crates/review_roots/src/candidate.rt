@@ -8,6 +8,7 @@ ghost use Rattle.review_roots.specs.Body.Raising.{indices};
 ghost use Rattle.review_roots.specs.Body.Towards.{HasStrong, IsToward};
 ghost use Rattle.review_roots.specs.States.{person_of};
 ghost use Rattle.review_roots.specs.declared.candidate.Candidate.{Candidate as TheCandidate};
+ghost use Rattle.review_roots.specs.declared.toward.Toward.{Toward as TheToward};
 
 use crate::Level;
 use crate::base::{Base, listed_beside, lists_at, passes_of, set_base};
@@ -21,14 +22,14 @@ use std::alloc::{AllocError, Global};
 use sudo_match::Person;
 
 /// A user with its added group, if any: the indices of the blocks whose user list allows it, and of those of them that raise;
-/// and what steps to it depend on, if it has no added group.
+/// and what steps to it depend on, if that is kept.
 #[derive(Drop)]
 pub(crate) struct Candidate {
     pub(crate) state: State,
     pub(crate) person: Person,
     pub(crate) listed: Vec<usize>,
     pub(crate) strong: Vec<usize>,
-    pub(crate) toward: Toward,
+    pub(crate) toward: Option<Toward>,
 }
 
 // Whether two texts may be the same by their last bytes, by which names differ more often than by their first.
@@ -147,23 +148,23 @@ fn person_at(
     Ok(Some(with_added(alloc, person, group)?))
 }
 
-// Returns what steps to a state depend on, if it has no added group: steps to another one are not found by it.
-fn toward_alone(alloc: Global, ground: Ground<'_, '_>, state: State) -> Result<Toward, AllocError>
-    ensures toward { IfOk result (λ toward. state.added ≡ None → IsToward
+// Returns what steps to a state depend on, if it has no added group, or few states are kept: otherwise that takes too much memory.
+fn kept_toward(
+    alloc: Global,
+    ground: Ground<'_, '_>,
+    state: State,
+) -> Result<Option<Toward>, AllocError>
+    ensures toward { IfOk result (λ kept. (t : TheToward) → kept ≡ Some t → IsToward
         ground.entry.checked.now ground.entry.directory.now ground.entry.groups.now
-        ground.entry.blocks.now state toward) }
-    ensures strong { IfOk result (λ toward. state.added ≡ None → HasStrong ground.entry.least
-        ground.entry.blocks.now toward) }
+        ground.entry.blocks.now state t) }
+    ensures strong { IfOk result (λ kept. (t : TheToward) → kept ≡ Some t → HasStrong
+        ground.entry.least ground.entry.blocks.now t) }
 {
-    if state.added.is_some() {
-        return Ok(Toward {
-            state,
-            allowed: Vec::new(alloc),
-            strong: Vec::new(alloc),
-        });
+    if state.added.is_some() && !ground.few {
+        return Ok(None);
     }
     let toward = toward_at(alloc, ground, state)?;
-    Ok(toward)
+    Ok(Some(toward))
 }
 
 // Returns the candidate of a state, from its user and from the blocks that list it, and those of them that raise.
@@ -183,7 +184,7 @@ fn candidate_of(
         ground.entry.directory.now ground.entry.groups.now ground.entry.least
         ground.entry.blocks.now c) }
 {
-    let toward = toward_alone(alloc, ground, state)?;
+    let toward = kept_toward(alloc, ground, state)?;
     Ok(Candidate {
         state,
         person,

@@ -23,6 +23,8 @@ pub(crate) struct Ground<'g, 'a> {
     pub(crate) raising: &'g [usize],
     // For some blocks, the index of an earlier one with the same user list.
     pub(crate) alike: &'g [usize],
+    // Whether few states are kept.
+    pub(crate) few: bool,
     ghost raised: { raising.now ≡ indices (block_raises least) blocks.now },
     ghost likened: { AreFirsts user_list blocks.now alike.now },
     ghost resolve: { IsTrue (list_all (block_resolves checked.now) blocks.now) },

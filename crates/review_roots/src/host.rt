@@ -47,6 +47,8 @@ pub struct HostSteps<'r, 'a> {
     pub(crate) states: &'r [State],
     pub(crate) candidates: &'r [Candidate],
     pub(crate) places: &'r [Option<usize>],
+    // Whether few states are kept.
+    pub(crate) few: bool,
     // For each block, whether it is for the host.
     pub(crate) on: Vec<bool>,
     ghost listed: { IsTrue (is_at_least level.Listed least) },
@@ -133,6 +135,7 @@ impl<'r, 'a> HostSteps<'r, 'a> {
             states: rules.states.as_slice(),
             candidates: rules.candidates.as_slice(),
             places: rules.places.as_slice(),
+            few: rules.few,
             on,
         })
     }

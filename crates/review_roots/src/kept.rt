@@ -100,6 +100,11 @@ fn kept_by(
     Ok(states)
 }
 
+/// Whether few states are kept: at most four or so for each user.
+pub(crate) fn are_few(users: usize, states: &[State]) -> bool {
+    states.len() / 4 <= users
+}
+
 /// Returns states that stand for all on the way to a target: each user without an added group; with each added group that has one of
 /// the IDs; and with the first other one that the user has, and the first that it lacks. Returns `AllocError` if allocation fails.
 pub(crate) fn kept_states(

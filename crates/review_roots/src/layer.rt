@@ -59,8 +59,8 @@ fn toward_of<'r>(
     ensures strong { IfOk result (λ toward. HasStrong steps.now.least steps.now.blocks.now
         (spec.any_toward toward)) }
 {
-    match steps.known(state) {
-        Some(known) => Ok(AnyToward::Known(&known.toward)),
+    match steps.known_toward(state) {
+        Some(toward) => Ok(AnyToward::Known(toward)),
         None => Ok(AnyToward::Made(steps.toward(alloc, state)?)),
     }
 }

@@ -23,7 +23,7 @@ use crate::blocks::blocks_of;
 use crate::candidate::{Candidate, hopeful};
 use crate::deciding::deciding;
 use crate::ground::Ground;
-use crate::kept::kept_states;
+use crate::kept::{are_few, kept_states};
 use crate::naming::naming;
 use crate::order::sort_states;
 use crate::raising::raising_of;
@@ -56,8 +56,10 @@ pub struct Rules<'a> {
     // The states that stand for all, in their order.
     pub(crate) states: Vec<State>,
     pub(crate) candidates: Vec<Candidate>,
-    // For each user, the index of its candidate without an added group, if any.
+    // For each user, the index of its first candidate, if any.
     pub(crate) places: Vec<Option<usize>>,
+    // Whether few states are kept.
+    pub(crate) few: bool,
     ghost listed: { IsTrue (is_at_least level.Listed least) },
     ghost tied: { AreBlocks checked.now blocks.items },
     ghost raised: { raising.items ≡ indices (block_raises least) blocks.items },
@@ -73,17 +75,17 @@ pub struct Rules<'a> {
     ghost faultless: { directory_fault directory.now.people directory.now.machines ≡ None },
 }
 
-// The candidates of the states so far, and for each user the index of its candidate without an added group, if any.
+// The candidates of the states so far, and for each user the index of its first one, if any.
 #[derive(Drop)]
 struct Gathered {
     candidates: Vec<Candidate>,
     places: Vec<Option<usize>>,
 }
 
-// Notes the index of the candidate of a state, if it has no added group.
-fn set_place(places: &mut [Option<usize>], state: State, index: usize) {
-    if state.added.is_none() && state.user < places.len() {
-        places[state.user] = Some(index);
+// Notes the index of a candidate of the user, if it is the first one.
+fn set_place(places: &mut [Option<usize>], user: usize, index: usize) {
+    if user < places.len() && places[user].is_none() {
+        places[user] = Some(index);
     }
 }
 
@@ -112,7 +114,7 @@ fn gather_state(
 {
     if let Some(candidate) = hopeful(alloc, ground, rows, base, state)? {
         let index = gathered.candidates.len();
-        set_place(gathered.places.as_mut_slice(), state, index);
+        set_place(gathered.places.as_mut_slice(), state.user, index);
         gathered.candidates.push(candidate)?;
     }
     Ok(())
@@ -160,6 +162,11 @@ impl<'a> Rules<'a> {
         let raising = raising_of(alloc, least, &blocks)?;
         let users = alike_users(alloc, &blocks)?;
         let alike = alike_hosts(alloc, &blocks)?;
+        directory.has_no_fault();
+        let ids = named_ids(alloc, checked, deciding(least, &blocks), groups)?;
+        let mut states = kept_states(alloc, directory, groups, &ids)?;
+        sort_states(directory, &mut states)?;
+        let few = are_few(directory.people().len(), &states);
         let ground = Ground {
             checked,
             directory,
@@ -168,11 +175,8 @@ impl<'a> Rules<'a> {
             blocks: blocks.as_slice(),
             raising: raising.as_slice(),
             alike: users.as_slice(),
+            few,
         };
-        directory.has_no_fault();
-        let ids = named_ids(alloc, checked, deciding(least, &blocks), groups)?;
-        let mut states = kept_states(alloc, directory, groups, &ids)?;
-        sort_states(directory, &mut states)?;
         let Gathered { candidates, places } = gather(alloc, ground, &states)?;
         Ok(Rules {
             checked,
@@ -186,6 +190,7 @@ impl<'a> Rules<'a> {
             states,
             candidates,
             places,
+            few,
         })
     }
 }

@@ -162,7 +162,7 @@ fn may_start(starts: &[Option<usize>], state: State) -> bool
 
 /// Whether the candidate is left: a chain may begin with it, it is not the target, a block on the host that raises lists it, and one of
 /// its steps that count may have the least level. The last is not looked up where few are left: where listed commands do not count, and
-/// no group may be added.
+/// few states are kept.
 pub(crate) fn is_left(
     steps: &HostSteps<'_, '_>,
     sought: Sought,
@@ -173,7 +173,7 @@ pub(crate) fn is_left(
 {
     may_start(starts, candidate.state)
         && steps.is_heard(sought.target, candidate)
-        && ((steps.groups.len() == 0 && steps.least.is_at_least(Level::AllBut))
+        && ((steps.few && steps.least.is_at_least(Level::AllBut))
             || steps.may_count(candidate, sought.counted))
 }
 
@@ -295,8 +295,8 @@ fn is_reached_by(
     ensures { IfOk result (λ is. is ≡ false
         → All (λ c. reaches steps.now aim c.now ≡ false) left.now) }
 {
-    match steps.known(aim.state) {
-        Some(known) => Ok(is_reached(steps, aim, &known.toward, left)),
+    match steps.known_toward(aim.state) {
+        Some(toward) => Ok(is_reached(steps, aim, toward, left)),
         None => {
             let toward = steps.toward(alloc, aim.state)?;
             Ok(is_reached(steps, aim, &toward, left))

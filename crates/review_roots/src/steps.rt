@@ -7,7 +7,7 @@ ghost use Rattle.sudo_verdict.specs.RunasForms.{runas_allows};
 ghost use Rattle.review_roots.specs.Asked.{given_alone, given_asked, given_towards, nothing};
 ghost use Rattle.review_roots.specs.Blocks.{with_rows};
 ghost use Rattle.review_roots.specs.Body.Candidates as spec;
-ghost use Rattle.review_roots.specs.Body.Found.{IsCandidate};
+ghost use Rattle.review_roots.specs.Body.Found.{IsCandidate, IsTowardOf};
 ghost use Rattle.review_roots.specs.Body.May as most;
 ghost use Rattle.review_roots.specs.Body.Settled.{given_at, settles_at, settles_of};
 ghost use Rattle.review_roots.specs.Body.Towards.{HasStrong, IsToward};
@@ -16,6 +16,7 @@ ghost use Rattle.review_roots.specs.States.{level_for, person_of, step_given};
 ghost use Rattle.review_roots.specs.declared.candidate.Candidate.{Candidate as TheCandidate};
 ghost use Rattle.review_roots.specs.declared.given.Counted.{Counted as TheCounted};
 ghost use Rattle.review_roots.specs.declared.level.Level.{Level as TheLevel};
+ghost use Rattle.review_roots.specs.declared.toward.Toward.{Toward as TheToward};
 
 use crate::Level;
 use crate::candidate::{Candidate, candidate_at, is_same_user};
@@ -47,21 +48,36 @@ fn both_at(one: &[bool], other: &[bool], index: usize) -> bool
 }
 
 impl<'r, 'a> HostSteps<'r, 'a> {
-    /// Returns the candidate of a state, if it is known and has no added group.
+    /// Returns the candidate of a state, if there is one. Those of a user stand behind its first one.
     pub(crate) fn known(&self, state: State) -> Option<&'r Candidate>
-        ensures candidate { (c : Bor TheCandidate) → result ≡ Some c
+        ensures { (c : Bor TheCandidate) → result ≡ Some c
             → (c.now.state ≡ state) × IsCandidate self.now c.now }
-        ensures alone { (c : Bor TheCandidate) → result ≡ Some c → state.added ≡ None }
     {
-        if state.added.is_some() {
-            return None;
+        let first = (*self.places.get(state.user)?)?;
+        for index in first..self.candidates.len() {
+            let candidate = &self.candidates[index];
+            if candidate.state == state {
+                return Some(candidate);
+            }
+            if candidate.state.user != state.user {
+                return None;
+            }
         }
-        let place = (*self.places.get(state.user)?)?;
-        let candidate = self.candidates.get(place)?;
-        if candidate.state.user == state.user && candidate.state.added.is_none() {
-            Some(candidate)
-        } else {
-            None
+        None
+    }
+
+    /// Returns what the steps to a state depend on, if that is kept.
+    pub(crate) fn known_toward(&self, state: State) -> Option<&'r Toward>
+        ensures toward { (t : Bor TheToward) → result ≡ Some t → IsTowardOf self.now state t.now }
+        ensures strong { (t : Bor TheToward) → result ≡ Some t → HasStrong self.now.least
+            self.now.blocks.now t.now }
+    {
+        let Some(known) = self.known(state) else {
+            return None;
+        };
+        match &known.toward {
+            Some(toward) => Some(toward),
+            None => None,
         }
     }
 
@@ -80,6 +96,7 @@ impl<'r, 'a> HostSteps<'r, 'a> {
             blocks: self.blocks,
             raising: self.raising,
             alike: &[],
+            few: false,
         };
         toward_at(alloc, ground, state)
     }
@@ -99,6 +116,7 @@ impl<'r, 'a> HostSteps<'r, 'a> {
             blocks: self.blocks,
             raising: self.raising,
             alike: &[],
+            few: false,
         };
         candidate_at(alloc, ground, state)
     }
@@ -393,8 +411,8 @@ impl<'r, 'a> HostSteps<'r, 'a> {
         ensures { result ≡ step_given self.now.checked.now self.now.directory.now
             self.now.host.now self.now.groups.now candidate.now.state to }
     {
-        match self.known(to) {
-            Some(other) => self.step_toward(candidate, &other.toward),
+        match self.known_toward(to) {
+            Some(toward) => self.step_toward(candidate, toward),
             None => self.step_asked(candidate, to),
         }
     }

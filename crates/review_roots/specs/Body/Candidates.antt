@@ -10,6 +10,7 @@ use Rattle.review_roots.specs.declared.block.Block.{Block}
 use Rattle.review_roots.specs.declared.candidate.Candidate.{Candidate}
 use Rattle.review_roots.specs.declared.level.Level.{Level}
 use Rattle.review_roots.specs.declared.state.State.{State}
+use Rattle.review_roots.specs.declared.toward.Toward.{Toward}
 use Rattle.review_roots.specs.Blocks.{Row, block_rows, lists}
 use Rattle.review_roots.specs.States.{person_of}
 use Rattle.review_roots.specs.Body.Raising.{block_raises, indices}
@@ -39,13 +40,13 @@ raises_for p least u b = block_raises least b && lists p u b
 -- ---- Candidates
 
 -- the candidate is the user of its state; the blocks that list it, and those of them that raise, are known, and so is what steps
--- to it depend on, if it has no added group
+-- to it depend on, if that is kept
 pub record Qualifies (p : Policy) (d : KnownRows) (groups : List Group) (least : Level) (bs : List Block) (c : Candidate) : Type 0 where
   pub person : person_of d groups c.state ≡ Some c.person
   pub listed : c.listed.items ≡ indices (lists p c.person) bs
   pub strong : c.strong.items ≡ indices (raises_for p least c.person) bs
-  pub toward : c.state.added ≡ None → IsToward p d groups bs c.state c.toward
-  pub strong_to : c.state.added ≡ None → HasStrong least bs c.toward
+  pub toward : (t : Toward) → c.toward ≡ Some t → IsToward p d groups bs c.state t
+  pub strong_to : (t : Toward) → c.toward ≡ Some t → HasStrong least bs t
 
 -- no block that raises lists the user of the state
 abbrev pub IsSilent : Policy → KnownRows → List Group → Level → List Block → State → Type 0

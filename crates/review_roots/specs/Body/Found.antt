@@ -51,10 +51,10 @@ abbrev pub HaveNoChain : HostSteps → ℕ → Level → List (Option ℕ) → T
 HaveNoChain h target l starts =
     (user : ℕ) → slice_get starts user ≡ Some None → HasNoPath (any_steps h target) l (state_with None user)
 
--- no group may be added and listed commands do not count, or a step of the candidate that counts may have the least level
+-- few states are kept and listed commands do not count, or a step of the candidate that counts may have the least level
 abbrev pub is_counted : HostSteps → Counted → Candidate → Bool
 is_counted h k c =
-    ((length h.groups.now == 0) && is_at_least level.AllBut h.least)
+    (h.few && is_at_least level.AllBut h.least)
     || may_count h.on.items h.blocks.now h.least k c.listed.items
 
 -- a chain may begin with the candidate; a block on the host that raises lists it, which is not the target; and where many are left, a

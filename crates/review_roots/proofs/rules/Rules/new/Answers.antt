@@ -25,7 +25,7 @@ invariant_of-result-clause-kept c = λ s.
 pub invariant_of-result-clause-candidates_order : goal.invariant_of-result-clause-candidates_order
 invariant_of-result-clause-candidates_order c =
     let d = c.args.directory.now in
-    c.in_ok-candidates.ensures.order d (subst (IsInOrder d) (sym c.deref-6.ensures.value) c.in_ok-sort_states.ensures.sorted)
+    c.in_ok-candidates.ensures.order d (subst (IsInOrder d) (sym c.deref-7.ensures.value) c.in_ok-sort_states.ensures.sorted)
 
 pub invariant_of-result-clause-unnamed : goal.invariant_of-result-clause-unnamed
 invariant_of-result-clause-unnamed c =
