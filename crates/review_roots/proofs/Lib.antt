@@ -33,6 +33,8 @@ pub mod CandidateLemmas
 pub mod MemberLemmas
 pub mod UnnamedLemmas
 pub mod AlikeLemmas
+pub mod AloneLemmas
+pub mod RunasLemmas
 pub mod SoleLemmas
 pub mod UserLemmas
 pub mod KeptLemmas

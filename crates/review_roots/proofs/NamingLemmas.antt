@@ -16,7 +16,7 @@ use Rattle.review_roots.specs.declared.base.Base.{Base}
 use Rattle.review_roots.specs.declared.block.Block.{Block}
 use Rattle.review_roots.specs.declared.state.State.{State}
 use Rattle.review_roots.specs.Blocks.{lists}
-use Rattle.review_roots.specs.Body.Naming.{AreRows, IsBase, names_in, row_of, trimmed, user_list}
+use Rattle.review_roots.specs.Body.Naming.{AreRows, IsBase, names_in, row_at, row_in, row_of, trimmed, user_list}
 use Rattle.review_roots.specs.Body.Raising.{passes as block_passes, passes_at}
 use Rattle.review_roots.specs.KnownGroups.{list_names}
 use Rattle.review_roots.specs.States.{group_at, person_of, with_added}
@@ -117,7 +117,51 @@ module _
             let unnamed : names_in p g b ≡ false =
             sym (answer-at (names_in p g) bs k b at) ∙ sym (trimmed-at (map (names_in p g) bs) k)
             ∙ ap (λ xs. slice_index_or xs k false) same_row ∙ none in
-            ap (λ xs. slice_index_or xs k false) (is u (ap (slice_get d.people) own ∙ known))
+            ap (λ xs. slice_index_or xs k false) (is.passes u (ap (slice_get d.people) own ∙ known))
             ∙ answer-at (lists p u) bs k b at
             ∙ sym (ap allows (added-value kind.User p b.users.now u g unnamed))
             ∙ ap (λ v. lists p v b) same_person
+
+-- the same of any state of the user
+module _
+    (p : Policy) (d : KnownRows) (bs : List Block) (groups : List Group) (s : State) (base : Base) (is : IsBase p d bs base)
+    (own : base.user ≡ s.user) (person : Person) (who : person_of d groups s ≡ Some person)
+  where
+    without : group_at groups s.added ≡ None → (k : ℕ) (b : Block) → slice_get bs k ≡ Some b
+        → slice_index_or base.passes.items k false ≡ lists p person b
+    without none k b at = go (slice_get d.people s.user) refl
+      where
+        go : (v : Option Person) → slice_get d.people s.user ≡ v → slice_index_or base.passes.items k false ≡ lists p person b
+        go None known =
+            absurd (let bad : None ≡ Some person =
+            sym (ap (option_map (λ u. with_added u (group_at groups s.added))) known) ∙ who in cc)
+        go (Some u) known =
+            let person_is : Some u ≡ Some person =
+            ap (λ o. Some (with_added u o)) (sym none)
+            ∙ sym (ap (option_map (λ u. with_added u (group_at groups s.added))) known) ∙ who in
+            let same : u ≡ person = cc in
+            ap (λ xs. slice_index_or xs k false) (is.passes u (ap (slice_get d.people) own ∙ known))
+            ∙ answer-at (lists p u) bs k b at ∙ ap (λ v. lists p v b) same
+
+    pub beside-any : (rows : List (Vec Bool Global)) → AreRows p bs groups rows → (k : ℕ) (b : Block) → slice_get bs k ≡ Some b
+        → slice_index_or (row_at rows s.added) k false ≡ false → slice_index_or base.passes.items k false ≡ lists p person b
+    beside-any rows named k b at none = go s.added refl
+      where
+        no-group : (o : Option Group) → option_map (row_of p bs) o ≡ None → o ≡ None
+        no-group None absent = refl
+        no-group (Some g) absent = absurd (let bad : Some (row_of p bs g) ≡ None = absent in cc)
+
+        by-row : (i : ℕ) → s.added ≡ Some i → (o : Option (Vec Bool Global)) → slice_get rows i ≡ o
+            → slice_index_or base.passes.items k false ≡ lists p person b
+        by-row i added (Some row) there =
+            beside p d bs groups s i added rows named row there base is own person who k b at
+            (sym (ap (λ xs. slice_index_or xs k false) (ap (row_at rows) added ∙ ap row_in there)) ∙ none)
+        by-row i added None there =
+            without (ap (group_at groups) added ∙ no-group (slice_get groups i)
+            (sym (slice_get-map (row_of p bs) groups i) ∙ ap (λ xs. slice_get xs i) (sym named)
+            ∙ slice_get-map (λ (v : Vec Bool Global). v.items) rows i ∙ ap (option_map (λ (v : Vec Bool Global). v.items)) there))
+            k b at
+
+        go : (a : Option ℕ) → s.added ≡ a → slice_index_or base.passes.items k false ≡ lists p person b
+        go None added = without (ap (group_at groups) added) k b at
+        go (Some i) added = by-row i added (slice_get rows i) refl

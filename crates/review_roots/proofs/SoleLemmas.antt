@@ -20,7 +20,7 @@ use Rattle.sudo_verdict.specs.Last.{last_that}
 use Rattle.sudo_verdict.specs.Values.{allows, user_allowed, value}
 use Rattle.review_roots.specs.declared.block.Block.{Block}
 use Rattle.review_roots.specs.Blocks.{is_for, lists}
-use Rattle.review_roots.specs.Body.Alike.{AreAlike, AreFirsts, IsFirst, host_list, user_list}
+use Rattle.review_roots.specs.Body.Alike.{AreAlike, AreFirstsBy, IsFirstBy, host_list, user_list}
 use Rattle.review_roots.specs.Body.Raising.{passes, passes_at}
 use Rattle.review_roots.proofs.IndexLemmas.{answer-at}
 use Rattle.review_roots.proofs.LayerLemmas.{get-append-split}
@@ -107,10 +107,10 @@ there-itself xs i x l at = let e : Some x ≡ Some (get_or xs i x) = sym at ∙ 
 
 -- the answer of the block at an index is that of an earlier one with such a list
 pub like-at :
-    (t : Block → Bool) (list : Block → List Member) (bs : List Block) (firsts : List ℕ) (known : List Bool) (index first : ℕ) →
-    ((f b : Block) → AreAlike (list f) (list b) → t f ≡ t b) → AreFirsts list bs firsts → slice_get firsts index ≡ Some first →
+    (t : Block → Bool) (same : Block → Block → Type 0) (bs : List Block) (firsts : List ℕ) (known : List Bool) (index first : ℕ) →
+    ((f b : Block) → same f b → t f ≡ t b) → AreFirstsBy same bs firsts → slice_get firsts index ≡ Some first →
     first < index → index < length bs → known ≡ map t (take index bs) → slice_index_or known first false ≡ passes_at t bs index
-like-at t list bs firsts known index first alike are at less inside is =
+like-at t same bs firsts known index first alike are at less inside is =
     go (slice_get bs index) refl (slice_get bs first) refl
   where
     go : (o : Option Block) → slice_get bs index ≡ o → (q : Option Block) → slice_get bs first ≡ q
@@ -138,18 +138,18 @@ answers-more t bs i answer old new inside passed so_far grows = go (there-some b
 
 -- one index more
 pub firsts-more :
-    (list : Block → List Member) (bs : List Block) (old new : List ℕ) (index first : ℕ) → length old ≡ index → IsFirst list bs index first →
-    new ≡ old ++ first ∷ [] → AreFirsts list bs old → AreFirsts list bs new
-firsts-more list bs old new index first long is grows so_far i j at =
+    (alike : Block → Block → Type 0) (bs : List Block) (old new : List ℕ) (index first : ℕ) → length old ≡ index →
+    IsFirstBy alike bs index first → new ≡ old ++ first ∷ [] → AreFirstsBy alike bs old → AreFirstsBy alike bs new
+firsts-more alike bs old new index first long is grows so_far i j at =
     go (get-append-split old (first ∷ []) i j (ap (λ (xs : List ℕ). slice_get xs i) (sym grows) ∙ at))
   where
-    last : (k : ℕ) → i ≡ length old + k → slice_get (first ∷ []) k ≡ Some j → IsFirst list bs i j
+    last : (k : ℕ) → i ≡ length old + k → slice_get (first ∷ []) k ≡ Some j → IsFirstBy alike bs i j
     last zero same here =
         let this : first ≡ j = cc in
         let there : index ≡ i = omega (arith, same, long) in
-        subst (λ i. IsFirst list bs i j) there (subst (IsFirst list bs index) this is)
+        subst (λ i. IsFirstBy alike bs i j) there (subst (IsFirstBy alike bs index) this is)
     last (suc k) same here = cc
 
-    go : (slice_get old i ≡ Some j) ⊎ ((k : ℕ) × ((i ≡ length old + k) × (slice_get (first ∷ []) k ≡ Some j))) → IsFirst list bs i j
+    go : (slice_get old i ≡ Some j) ⊎ ((k : ℕ) × ((i ≡ length old + k) × (slice_get (first ∷ []) k ≡ Some j))) → IsFirstBy alike bs i j
     go (inl before) = so_far i j before
     go (inr (k, (same, here))) = last k same here

@@ -1,4 +1,4 @@
-//! Lists that are one alias alone: what one of them answers, each other one of the same alias does.
+//! Lists that are one alias or name alone, or `ALL`: what one of them answers, each other one of the same does.
 ghost use Rattle.std.specs.Prelude.{◌≡◌, ◌<◌, ◌∷◌, [], ℕ, IfOk, Some, slice_get, true};
 ghost use Rattle.review_roots.specs.Body.Alike as spec;
 
@@ -7,34 +7,50 @@ use std::alloc::{AllocError, Global};
 use sudo_base::Names;
 use sudo_policy::{Atom, Member, alias_name};
 
-// Whether both atoms are the same alias.
-fn is_same_alias(atom: &Atom, other: &Atom) -> bool
+// Whether both atoms are `ALL`, the same alias, or the same name.
+fn is_same_atom(atom: &Atom, other: &Atom) -> bool
     ensures { result ≡ true → atom.now ≡ other.now }
 {
     match (atom, other) {
+        (Atom::All, Atom::All) => true,
         (Atom::Alias(name), Atom::Alias(another)) => name == another,
+        (Atom::Name(name), Atom::Name(another)) => name == another,
         _ => false,
     }
 }
 
-// Whether the list is the same alias alone as the member, as often negated.
+// Whether the list is the same such atom alone as the member, as often negated.
 fn is_sole(list: &[Member], member: &Member) -> bool
     ensures { result ≡ true → spec.AreAlike (member.now ∷ []) list.now }
 {
     match list {
-        [one] => one.bangs == member.bangs && is_same_alias(&one.atom, &member.atom),
+        [one] => one.bangs == member.bangs && is_same_atom(&one.atom, &member.atom),
         _ => false,
     }
 }
 
-// Whether both lists are one alias alone, the same one, as often negated.
-fn are_alike(list: &[Member], other: &[Member]) -> bool
+/// Whether both lists are one such atom alone, the same one, as often negated.
+pub(crate) fn are_alike(list: &[Member], other: &[Member]) -> bool
     ensures { result ≡ true → spec.AreAlike list.now other.now }
 {
     match list {
         [one] => is_sole(other, one),
         _ => false,
     }
+}
+
+/// Returns the index with which the name was met first: this one, if it was not met. Returns `AllocError` if allocation fails.
+pub(crate) fn first_met(
+    alloc: Global,
+    names: &mut Names,
+    name: &[u8],
+    index: usize,
+) -> Result<usize, AllocError> {
+    if let Some(first) = names.get(name) {
+        return Ok(first);
+    }
+    names.insert(alloc, name, index)?;
+    Ok(index)
 }
 
 // Returns the index with which the alias was met first that the list is alone; or this one.
@@ -50,11 +66,8 @@ fn first_with(
     let Some(name) = alias_name(&member.atom) else {
         return Ok(index);
     };
-    if let Some(first) = names.get(name) {
-        return Ok(first);
-    }
-    names.insert(alloc, name, index)?;
-    Ok(index)
+    let first = first_met(alloc, names, name, index)?;
+    Ok(first)
 }
 
 // Returns the other index if the user lists of both blocks are alike, and otherwise the first one.

@@ -1,4 +1,4 @@
-//! Which blocks list a user without an added group, and, by that, which list it with one.
+//! Which blocks list and allow a user without an added group, and, by that, which list it with one.
 ghost use Rattle.std.specs.Prelude.{◌≡◌, ◌<◌, IfOk, OnOk, Some, false, if◌then◌else◌, length, map, slice_get, take, ℕ};
 ghost use Rattle.std.specs.List.{slice_index_or};
 ghost use Rattle.review_roots.specs.Blocks.{lists};
@@ -11,14 +11,17 @@ use crate::ground::Ground;
 use crate::listing::lists_person;
 use crate::raising::push_if;
 use crate::steps::is_at;
+use crate::toward::allowed_alone;
 use std::alloc::{AllocError, Global};
 use sudo_match::Person;
 
-/// A user without an added group: for each block, whether its user list allows it, if it is known.
+/// A user without an added group: for each block, whether its user list allows it, if it is known; and whether its runas allows it to
+/// users of another name.
 #[derive(Drop)]
 pub(crate) struct Base {
     pub(crate) user: usize,
     pub(crate) passes: Vec<bool>,
+    pub(crate) allowed: Vec<bool>,
 }
 
 /// Whether there is a block at the index, and its user list allows the user.
@@ -64,7 +67,7 @@ pub(crate) fn passes_of(
     Ok(passes)
 }
 
-/// Returns which blocks list the user of an index, if it is known. Returns `AllocError` if allocation fails.
+/// Returns which blocks list and allow the user of an index, if it is known. Returns `AllocError` if allocation fails.
 pub(crate) fn base_of(
     alloc: Global,
     ground: Ground<'_, '_>,
@@ -78,7 +81,12 @@ pub(crate) fn base_of(
         Some(person) => passes_of(alloc, ground, person)?,
         None => Vec::new(alloc),
     };
-    Ok(Base { user, passes })
+    let allowed = allowed_alone(alloc, ground, user)?;
+    Ok(Base {
+        user,
+        passes,
+        allowed,
+    })
 }
 
 /// Puts the user of an index in the place of another one. Returns `AllocError` if allocation fails.

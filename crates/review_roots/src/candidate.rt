@@ -3,7 +3,7 @@ ghost use Rattle.std.specs.Prelude.{◌≡◌, [], IfOk, OnOk, Some, None, bytes
 ghost use Rattle.sudo_verdict.specs.RunasForms as form;
 ghost use Rattle.review_roots.specs.Blocks.{lists};
 ghost use Rattle.review_roots.specs.Body.Candidates as spec;
-ghost use Rattle.review_roots.specs.Body.Naming.{AreRows, IsBase};
+ghost use Rattle.review_roots.specs.Body.Naming.{AreRows, IsBase, row_at};
 ghost use Rattle.review_roots.specs.Body.Raising.{indices};
 ghost use Rattle.review_roots.specs.Body.Towards.{HasStrong, IsToward};
 ghost use Rattle.review_roots.specs.States.{person_of};
@@ -17,7 +17,7 @@ use crate::ground::Ground;
 use crate::raising::push_if;
 use crate::state::{State, group_at, with_added};
 use crate::steps::is_at;
-use crate::toward::{Toward, toward_at};
+use crate::toward::{Toward, beside, toward_at};
 use std::alloc::{AllocError, Global};
 use sudo_match::Person;
 
@@ -83,36 +83,44 @@ fn listed_of(
     Ok(listed)
 }
 
+// Returns the row of the added group; without one, an empty row.
+fn row_for(rows: &[Vec<bool>], added: Option<usize>) -> &[bool]
+    ensures { result.now ≡ row_at rows.now added }
+{
+    let Some(index) = added else {
+        return &[];
+    };
+    match rows.get(index) {
+        Some(row) => row.as_slice(),
+        None => &[],
+    }
+}
+
 // Returns the indices of the blocks whose user list allows the user of a state. A block that does not name the added group is not
 // looked up again: it lists the user as it does without the group.
 fn listed_by(
     alloc: Global,
     ground: Ground<'_, '_>,
     rows: &[Vec<bool>],
-    base: &mut Base,
+    base: &Base,
     state: State,
     person: &Person,
 ) -> Result<Vec<usize>, AllocError>
     requires rows { AreRows ground.checked.now ground.blocks.now ground.groups.now rows.now }
     requires base { IsBase ground.checked.now ground.directory.now ground.blocks.now base.now }
+    requires user { base.now.user ≡ state.user }
     requires person { person_of ground.directory.now ground.groups.now state
         ≡ Some person.now }
-    ensures base { OnOk result (IsBase ground.entry.checked.now ground.entry.directory.now
-        ground.entry.blocks.now base.new) }
-    ensures listed { IfOk result (λ listed. listed.items
+    ensures { IfOk result (λ listed. listed.items
         ≡ indices (lists ground.entry.checked.now person.now) ground.entry.blocks.now) }
 {
-    let Some(index) = state.added else {
-        let listed = listed_of(alloc, ground, person)?;
-        return Ok(listed);
-    };
-    let Some(row) = rows.get(index) else {
-        let listed = listed_of(alloc, ground, person)?;
-        return Ok(listed);
-    };
-    set_base(alloc, ground, state.user, base)?;
-    let listed = listed_beside(alloc, ground, &base.passes, row, person)?;
-    Ok(listed)
+    listed_beside(
+        alloc,
+        ground,
+        &base.passes,
+        row_for(rows, state.added),
+        person,
+    )
 }
 
 // Returns the indices of the blocks that raise, and whose user list allows the user.
@@ -148,50 +156,26 @@ fn person_at(
     Ok(Some(with_added(alloc, person, group)?))
 }
 
-// Returns what steps to a state depend on, if it has no added group, or few states are kept: otherwise that takes too much memory.
+// Returns what steps to a state depend on, if it has no added group, or that is kept for others too.
 fn kept_toward(
     alloc: Global,
     ground: Ground<'_, '_>,
+    base: &Base,
     state: State,
 ) -> Result<Option<Toward>, AllocError>
+    requires base { IsBase ground.checked.now ground.directory.now ground.blocks.now base.now }
+    requires user { base.now.user ≡ state.user }
     ensures toward { IfOk result (λ kept. (t : TheToward) → kept ≡ Some t → IsToward
         ground.entry.checked.now ground.entry.directory.now ground.entry.groups.now
         ground.entry.blocks.now state t) }
     ensures strong { IfOk result (λ kept. (t : TheToward) → kept ≡ Some t → HasStrong
         ground.entry.least ground.entry.blocks.now t) }
 {
-    if state.added.is_some() && !ground.few {
+    if state.added.is_some() && !ground.keeps {
         return Ok(None);
     }
     let toward = toward_at(alloc, ground, state)?;
-    Ok(Some(toward))
-}
-
-// Returns the candidate of a state, from its user and from the blocks that list it, and those of them that raise.
-fn candidate_of(
-    alloc: Global,
-    ground: Ground<'_, '_>,
-    state: State,
-    person: Person,
-    listed: Vec<usize>,
-    strong: Vec<usize>,
-) -> Result<Candidate, AllocError>
-    requires person { person_of ground.directory.now ground.groups.now state ≡ Some person }
-    requires listed { listed.items ≡ indices (lists ground.checked.now person) ground.blocks.now }
-    requires strong { strong.items ≡ indices (spec.raises_for ground.checked.now
-        ground.least person) ground.blocks.now }
-    ensures { IfOk result (λ c. (c.state ≡ state) × spec.Qualifies ground.entry.checked.now
-        ground.entry.directory.now ground.entry.groups.now ground.entry.least
-        ground.entry.blocks.now c) }
-{
-    let toward = kept_toward(alloc, ground, state)?;
-    Ok(Candidate {
-        state,
-        person,
-        listed,
-        strong,
-        toward,
-    })
+    Ok(Some(beside(toward, &base.allowed)))
 }
 
 /// Returns what the steps from a state depend on, or `None` if its user is unknown. Returns `AllocError` if allocation fails.
@@ -211,7 +195,13 @@ pub(crate) fn candidate_at(
     };
     let listed = listed_of(alloc, ground, &person)?;
     let strong = strong_of(alloc, ground, &person)?;
-    Ok(Some(candidate_of(alloc, ground, state, person, listed, strong)?))
+    Ok(Some(Candidate {
+        state,
+        person,
+        listed,
+        strong,
+        toward: None,
+    }))
 }
 
 /// Returns the same for a state that a block which raises lists, or whose user has ID 0, and `None` for any other. Returns
@@ -241,6 +231,14 @@ pub(crate) fn hopeful(
     if is_none(&strong) && person.uid != 0 {
         return Ok(None);
     }
+    set_base(alloc, ground, state.user, base)?;
     let listed = listed_by(alloc, ground, rows, base, state, &person)?;
-    Ok(Some(candidate_of(alloc, ground, state, person, listed, strong)?))
+    let toward = kept_toward(alloc, ground, base, state)?;
+    Ok(Some(Candidate {
+        state,
+        person,
+        listed,
+        strong,
+        toward,
+    }))
 }

@@ -2,7 +2,7 @@
 ghost use Rattle.std.specs.Prelude.{◌≡◌, IsTrue};
 ghost use Rattle.std.specs.List.{list_all};
 ghost use Rattle.review_roots.specs.Blocks.{block_resolves};
-ghost use Rattle.review_roots.specs.Body.Alike.{AreFirsts, user_list};
+ghost use Rattle.review_roots.specs.Body.Alike.{AreFirsts, AreFirstsBy, HaveAlikeRunas, user_list};
 ghost use Rattle.review_roots.specs.Body.Raising.{block_raises, indices};
 
 use crate::Level;
@@ -23,9 +23,12 @@ pub(crate) struct Ground<'g, 'a> {
     pub(crate) raising: &'g [usize],
     // For some blocks, the index of an earlier one with the same user list.
     pub(crate) alike: &'g [usize],
-    // Whether few states are kept.
-    pub(crate) few: bool,
+    // For some blocks, the index of an earlier one with the same runas.
+    pub(crate) runas: &'g [usize],
+    // Whether what steps to states with an added group depend on is kept.
+    pub(crate) keeps: bool,
     ghost raised: { raising.now ≡ indices (block_raises least) blocks.now },
     ghost likened: { AreFirsts user_list blocks.now alike.now },
+    ghost alike_runas: { AreFirstsBy HaveAlikeRunas blocks.now runas.now },
     ghost resolve: { IsTrue (list_all (block_resolves checked.now) blocks.now) },
 }

@@ -3,7 +3,7 @@ ghost use Rattle.std.specs.Prelude.{◌≡◌, ◌<◌, IfOk, IsTrue, None, leng
 ghost use Rattle.std.specs.List.{list_all};
 ghost use Rattle.sudo_match.specs.KnownRows.{directory_fault};
 ghost use Rattle.review_roots.specs.Blocks.{AreBlocks, block_resolves, is_for};
-ghost use Rattle.review_roots.specs.Body.Alike.{AreFirsts, host_list};
+ghost use Rattle.review_roots.specs.Body.Alike.{AreFirsts, AreFirstsBy, HaveAlikeRunas, host_list};
 ghost use Rattle.review_roots.specs.Body.Candidates.{AreCandidates, has_state, states_of};
 ghost use Rattle.review_roots.specs.Order.{IsInOrder};
 ghost use Rattle.review_roots.specs.Body.Deciding.{deciding};
@@ -41,6 +41,8 @@ pub struct HostSteps<'r, 'a> {
     pub(crate) blocks: &'r [Block<'a>],
     // The indices of the blocks that raise.
     pub(crate) raising: &'r [usize],
+    // For some blocks, the index of an earlier one with the same runas.
+    pub(crate) runas: &'r [usize],
     // The IDs of the groups that a list of a block names that decides.
     pub(crate) ids: &'r [u32],
     // The states that stand for all, in their order.
@@ -54,6 +56,7 @@ pub struct HostSteps<'r, 'a> {
     ghost listed: { IsTrue (is_at_least level.Listed least) },
     ghost tied: { AreBlocks checked.now blocks.now },
     ghost raised: { raising.now ≡ indices (block_raises least) blocks.now },
+    ghost alike_runas: { AreFirstsBy HaveAlikeRunas blocks.now runas.now },
     ghost resolve: { IsTrue (list_all (block_resolves checked.now) blocks.now) },
     ghost here: { on.items ≡ map (is_for checked.now host.now) blocks.now },
     ghost covered: { AreCandidates checked.now directory.now groups.now least blocks.now
@@ -131,6 +134,7 @@ impl<'r, 'a> HostSteps<'r, 'a> {
             least: rules.least,
             blocks,
             raising: rules.raising.as_slice(),
+            runas: rules.runas.as_slice(),
             ids: rules.ids.as_slice(),
             states: rules.states.as_slice(),
             candidates: rules.candidates.as_slice(),

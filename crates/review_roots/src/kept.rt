@@ -105,6 +105,14 @@ pub(crate) fn are_few(users: usize, states: &[State]) -> bool {
     states.len() / 4 <= users
 }
 
+// The bytes that may be taken by what steps to the states depend on.
+const ROOM: usize = 40_000_000;
+
+/// Whether there is room for what steps to each state depend on: a byte for each block, and some more.
+pub(crate) fn have_room(states: &[State], blocks: usize) -> bool {
+    blocks < ROOM && states.len() < ROOM / (blocks + 200)
+}
+
 /// Returns states that stand for all on the way to a target: each user without an added group; with each added group that has one of
 /// the IDs; and with the first other one that the user has, and the first that it lacks. Returns `AllocError` if allocation fails.
 pub(crate) fn kept_states(

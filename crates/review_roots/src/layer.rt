@@ -5,7 +5,7 @@ ghost use Rattle.std.specs.List.{filter_map};
 ghost use Rattle.review_roots.specs.Body.Found as spec;
 ghost use Rattle.review_roots.specs.Body.Found.{AreDeep, IsAimed, IsCandidate, aims_at, first_of, reaches};
 ghost use Rattle.review_roots.specs.Body.Firsts.{IsLayer};
-ghost use Rattle.review_roots.specs.Body.Towards.{HasStrong};
+ghost use Rattle.review_roots.specs.Body.Towards.{AgreeAlone, HasStrong};
 ghost use Rattle.review_roots.specs.Ranks.{is_at_least};
 ghost use Rattle.review_roots.specs.Ways.{step_on};
 ghost use Rattle.review_roots.specs.declared.given.Given.{Given as TheGiven};
@@ -65,20 +65,34 @@ fn toward_of<'r>(
     }
 }
 
+// Whether the same blocks allow both: those of one user are not compared that are known to be allowed as it is without a group.
+fn is_as_allowed(one: &Toward, other: &Toward) -> bool
+    requires { AgreeAlone one.now other.now }
+    ensures { result ≡ true → one.now.allowed.items ≡ other.now.allowed.items }
+{
+    if one.as_alone && other.as_alone {
+        return true;
+    }
+    one.allowed.as_slice() == other.allowed.as_slice()
+}
+
 // Whether the aim is of the state's user, and the same blocks allow both.
 fn is_like(aimed: &Aimed<'_>, aim: Aim, toward: &Toward) -> bool
     requires level { aimed.now.aim.level ≡ aim.level }
     requires counted { aimed.now.aim.counted ≡ aim.counted }
+    requires alone { aimed.now.aim.state.user ≡ aim.state.user
+        → AgreeAlone (spec.any_toward aimed.now.toward) toward.now }
     ensures { result ≡ true → spec.AreLike aimed.now aim toward.now }
 {
-    aimed.aim.state.user == aim.state.user
-        && aimed.toward.get().allowed.as_slice() == toward.allowed.as_slice()
+    aimed.aim.state.user == aim.state.user && is_as_allowed(aimed.toward.get(), toward)
 }
 
 // Whether one of the aims is of the state's user, and the same blocks allow both. They stand by their users.
 fn has_like(aims: &[Aimed<'_>], aim: Aim, toward: &Toward) -> bool
     requires level { All (λ a. a.aim.level ≡ aim.level) aims.now }
     requires counted { All (λ a. a.aim.counted ≡ aim.counted) aims.now }
+    requires alone { All (λ a. a.aim.state.user ≡ aim.state.user
+        → AgreeAlone (spec.any_toward a.toward) toward.now) aims.now }
     ensures { result ≡ true → spec.HasLike aims.now aim toward.now }
 {
     let mut at = aims.len();

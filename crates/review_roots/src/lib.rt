@@ -29,6 +29,7 @@ mod order;
 mod raising;
 mod roots;
 mod rules;
+mod runas;
 mod search;
 mod starts;
 mod state;

@@ -3,7 +3,7 @@ ghost use Rattle.std.specs.Prelude.{◌≡◌, ◌++◌, ◌∷◌, [], List, If
 ghost use Rattle.std.specs.List.{list_all};
 ghost use Rattle.sudo_match.specs.KnownRows.{KnownRows, directory_fault};
 ghost use Rattle.review_roots.specs.Blocks.{AreBlocks, block_resolves};
-ghost use Rattle.review_roots.specs.Body.Alike.{AreFirsts, host_list};
+ghost use Rattle.review_roots.specs.Body.Alike.{AreFirsts, AreFirstsBy, HaveAlikeRunas, host_list};
 ghost use Rattle.review_roots.specs.Body.Candidates.{AreCandidates, has_state, states_of};
 ghost use Rattle.review_roots.specs.Order.{IsInOrder};
 ghost use Rattle.review_roots.specs.Body.Deciding.{deciding};
@@ -23,10 +23,11 @@ use crate::blocks::blocks_of;
 use crate::candidate::{Candidate, hopeful};
 use crate::deciding::deciding;
 use crate::ground::Ground;
-use crate::kept::{are_few, kept_states};
+use crate::kept::{are_few, have_room, kept_states};
 use crate::naming::naming;
 use crate::order::sort_states;
 use crate::raising::raising_of;
+use crate::runas::alike_runas;
 use crate::state::State;
 use crate::unnamed::named_ids;
 use std::alloc::{AllocError, Global};
@@ -51,6 +52,8 @@ pub struct Rules<'a> {
     pub(crate) raising: Vec<usize>,
     // For some blocks, the index of an earlier one with the same host list.
     pub(crate) alike: Vec<usize>,
+    // For some blocks, the index of an earlier one with the same runas.
+    pub(crate) runas: Vec<usize>,
     // The IDs of the groups that a list of a block names that decides.
     pub(crate) ids: Vec<u32>,
     // The states that stand for all, in their order.
@@ -64,6 +67,7 @@ pub struct Rules<'a> {
     ghost tied: { AreBlocks checked.now blocks.items },
     ghost raised: { raising.items ≡ indices (block_raises least) blocks.items },
     ghost likened: { AreFirsts host_list blocks.items alike.items },
+    ghost alike_runas: { AreFirstsBy HaveAlikeRunas blocks.items runas.items },
     ghost resolve: { IsTrue (list_all (block_resolves checked.now) blocks.items) },
     ghost covered: { AreCandidates checked.now directory.now groups.now least blocks.items
         states.items candidates.items },
@@ -162,6 +166,7 @@ impl<'a> Rules<'a> {
         let raising = raising_of(alloc, least, &blocks)?;
         let users = alike_users(alloc, &blocks)?;
         let alike = alike_hosts(alloc, &blocks)?;
+        let runas = alike_runas(alloc, &blocks)?;
         directory.has_no_fault();
         let ids = named_ids(alloc, checked, deciding(least, &blocks), groups)?;
         let mut states = kept_states(alloc, directory, groups, &ids)?;
@@ -175,7 +180,8 @@ impl<'a> Rules<'a> {
             blocks: blocks.as_slice(),
             raising: raising.as_slice(),
             alike: users.as_slice(),
-            few,
+            runas: runas.as_slice(),
+            keeps: few || have_room(&states, blocks.len()),
         };
         let Gathered { candidates, places } = gather(alloc, ground, &states)?;
         Ok(Rules {
@@ -186,6 +192,7 @@ impl<'a> Rules<'a> {
             blocks,
             raising,
             alike,
+            runas,
             ids,
             states,
             candidates,

@@ -319,6 +319,9 @@ pub(crate) fn has_step(
         (length spread.now.found.items) spread.now.found.items
         (states_of (map (λ c. c.now) spread.now.left.items))) }
 {
+    if is_none(&spread.left) {
+        return Ok(false);
+    }
     for index in 0..spread.found.len() {
         let aim = Aim {
             index,

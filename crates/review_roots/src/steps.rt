@@ -96,7 +96,8 @@ impl<'r, 'a> HostSteps<'r, 'a> {
             blocks: self.blocks,
             raising: self.raising,
             alike: &[],
-            few: false,
+            runas: self.runas,
+            keeps: false,
         };
         toward_at(alloc, ground, state)
     }
@@ -116,7 +117,8 @@ impl<'r, 'a> HostSteps<'r, 'a> {
             blocks: self.blocks,
             raising: self.raising,
             alike: &[],
-            few: false,
+            runas: self.runas,
+            keeps: false,
         };
         candidate_at(alloc, ground, state)
     }

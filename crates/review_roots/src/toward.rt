@@ -1,9 +1,16 @@
 //! Steps of many users to one state: which blocks of rows allow it, found once for all hosts.
-ghost use Rattle.std.specs.Prelude.{◌≡◌, false, filter, IfOk, map, option_copied};
+ghost use Rattle.std.specs.Prelude.{◌≡◌, ◌<◌, List, false, filter, IfOk, length, map, option_copied, slice_get, take};
 ghost use Rattle.std.specs.List.{slice_index_or};
+ghost use Rattle.sudo_grammar.specs.declared.policy.Policy.{Policy};
+ghost use Rattle.sudo_match.specs.KnownRows.{KnownRows};
+ghost use Rattle.sudo_match.specs.declared.people.Group.{Group as TheGroup};
 ghost use Rattle.sudo_verdict.specs.RunasForms.{is_same_user};
-ghost use Rattle.review_roots.specs.Body.Towards.{AreAllowed, HasStrong, IsToward, block_allows};
+ghost use Rattle.review_roots.specs.Body.Raising.{passes_at};
+ghost use Rattle.review_roots.specs.Body.Towards.{asker_allowed, AllowAlone, AllowOf, AreAllowed, HasStrong, IsToward, block_allows};
+ghost use Rattle.review_roots.specs.declared.block.Block.{Block as TheBlock};
+ghost use Rattle.review_roots.specs.declared.level.Level.{Level as TheLevel};
 
+use crate::alike::earlier;
 use crate::ground::Ground;
 use crate::raising::push_if;
 use crate::state::{State, group_at};
@@ -14,12 +21,14 @@ use sudo_text::Seq;
 use sudo_verdict::{Asker, allows_runas};
 
 /// A state to which steps are sought; for each block of rows whether its runas allows the user of the state, with its added
-/// group, to users of another name; and the indices of those that do and raise.
+/// group, to users of another name; the indices of those that do and raise; and whether the same blocks are known to allow the user
+/// without an added group.
 #[derive(Drop)]
 pub(crate) struct Toward {
     pub(crate) state: State,
     pub(crate) allowed: Vec<bool>,
     pub(crate) strong: Vec<usize>,
+    pub(crate) as_alone: bool,
 }
 
 // Returns a user of another name.
@@ -35,6 +44,24 @@ fn stranger_to(alloc: Global, person: &Person) -> Result<Person, AllocError>
         uid: person.uid,
         groups: Seq::new(alloc),
     })
+}
+
+// Whether the runas of the block at an index allows what is asked, where that is known of those before it: looked up, unless one of
+// them has the same runas.
+fn allows_behind(ground: Ground<'_, '_>, allowed: &[bool], index: usize, asker: Asker<'_>) -> bool
+    requires inside { index < length ground.blocks.now }
+    requires known { allowed.now ≡ map (asker_allowed ground.checked.now ground.directory.now asker)
+        (take index ground.blocks.now) }
+    ensures { result ≡ passes_at (asker_allowed ground.entry.checked.now ground.entry.directory.now
+        asker.entry) ground.entry.blocks.now index }
+{
+    match earlier(ground.runas, index) {
+        Some(first) => is_at(allowed, first),
+        None => {
+            let runas = ground.blocks[index].runas;
+            allows_runas(ground.checked, ground.directory, asker, runas)
+        }
+    }
 }
 
 // Returns for each block whether its runas allows the target and the group to a user, on a host.
@@ -57,8 +84,9 @@ fn allowed_to(
         group,
     };
     let mut allowed = Vec::new(alloc);
-    for block in ground.blocks {
-        allowed.push(allows_runas(ground.checked, ground.directory, asker, block.runas))?;
+    for index in 0..ground.blocks.len() {
+        let stands = allows_behind(ground, &allowed, index, asker);
+        allowed.push(stands)?;
     }
     Ok(allowed)
 }
@@ -80,6 +108,37 @@ fn allowed(
         interfaces: Seq::new(alloc),
     };
     allowed_to(alloc, ground, &stranger, &host, target, group)
+}
+
+// Returns the same for the user of an index, if it is known.
+fn allowed_at(
+    alloc: Global,
+    ground: Ground<'_, '_>,
+    user: usize,
+    group: Option<&Group>,
+) -> Result<Vec<bool>, AllocError>
+    ensures { IfOk result (λ allowed. AllowOf ground.entry.checked.now
+        ground.entry.directory.now ground.entry.blocks.now
+        (slice_get ground.entry.directory.now.people user) (option_copied group.entry)
+        allowed.items) }
+{
+    match ground.directory.people().get(user) {
+        Some(target) => allowed(alloc, ground, target, group),
+        None => Ok(Vec::new(alloc)),
+    }
+}
+
+/// Returns for each block whether its runas allows the user of an index, without an added group, to users of another name. Returns
+/// `AllocError` if allocation fails.
+pub(crate) fn allowed_alone(
+    alloc: Global,
+    ground: Ground<'_, '_>,
+    user: usize,
+) -> Result<Vec<bool>, AllocError>
+    ensures { IfOk result (λ allowed. AllowAlone ground.entry.checked.now
+        ground.entry.directory.now ground.entry.blocks.now user allowed.items) }
+{
+    allowed_at(alloc, ground, user, None)
 }
 
 // Returns the indices of the blocks that raise at which the list is true.
@@ -110,14 +169,36 @@ pub(crate) fn toward_at(
         toward) }
 {
     let group = group_at(ground.groups, state.added);
-    let allowed = match ground.directory.people().get(state.user) {
-        Some(target) => allowed(alloc, ground, target, group)?,
-        None => Vec::new(alloc),
-    };
+    let allowed = allowed_at(alloc, ground, state.user, group)?;
     let strong = strong_to(alloc, ground, &allowed)?;
     Ok(Toward {
         state,
         allowed,
         strong,
+        as_alone: state.added.is_none(),
     })
+}
+
+/// Notes whether the same blocks allow the user without an added group: those at which the list is true.
+pub(crate) fn beside(toward: Toward, alone: &[bool]) -> Toward
+    ensures toward { (p : Policy) (d : KnownRows) (gs : List TheGroup) (bs : List TheBlock)
+        → IsToward p d gs bs toward.state toward
+        → AllowAlone p d bs toward.state.user alone.now
+        → IsToward p d gs bs toward.state result }
+    ensures strong { (l : TheLevel) (bs : List TheBlock) → HasStrong l bs toward
+        → HasStrong l bs result }
+{
+    let Toward {
+        state,
+        allowed,
+        strong,
+        as_alone: _,
+    } = toward;
+    let as_alone = allowed.as_slice() == alone;
+    Toward {
+        state,
+        allowed,
+        strong,
+        as_alone,
+    }
 }

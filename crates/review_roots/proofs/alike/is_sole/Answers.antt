@@ -9,4 +9,4 @@ returns-then-one-member c = λ same k p.
     let one = c.one-item.result in
     sym (ap (λ (ms : List Member). written_form k p ms)
     (sole c.args.list.now one (omega (arith, c.in-len1.len_at_least, c.in-len1.len_below)) c.one-item.is)
-    ∙ alike-alone one c.args.member.now (omega (arith, c.if-one-member.true)) (c.is_same_alias.ensures same) k p)
+    ∙ alike-alone one c.args.member.now (omega (arith, c.if-one-member.true)) (c.is_same_atom.ensures same) k p)

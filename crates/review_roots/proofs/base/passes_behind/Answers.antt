@@ -1,6 +1,6 @@
 use Rattle.std.proofs.Common.{◌∙◌}
 use Rattle.review_roots.specs.Blocks.{lists}
-use Rattle.review_roots.specs.Body.Alike.{user_list}
+use Rattle.review_roots.specs.Body.Alike.{HaveAlike, user_list}
 use Rattle.review_roots.proofs.SoleLemmas.{like-at, users-alike}
 use Rattle.review_roots.proofs.base.passes_behind.Goals as goal
 
@@ -11,5 +11,5 @@ returns-in-Some c =
     let u = c.args.person.now in
     let first = c.earlier.ensures c.in-Some.first c.in-Some.is in
     c.is_at.ensures
-    ∙ like-at (lists p u) user_list ground.blocks.now ground.alike.now c.args.passes.now c.args.index c.in-Some.first (users-alike p u)
-    ground.likened first.0 first.1 c.requires.inside c.requires.known
+    ∙ like-at (lists p u) (HaveAlike user_list) ground.blocks.now ground.alike.now c.args.passes.now c.args.index c.in-Some.first
+    (users-alike p u) ground.likened first.0 first.1 c.requires.inside c.requires.known

@@ -3,7 +3,7 @@ use Rattle.std.proofs.lemmas.Bool.{and_parts}
 use Rattle.sudo_grammar.specs.declared.kind.Kind.TheVariants as kind
 use Rattle.sudo_policy.specs.Resolving.{resolves, runas_resolves}
 use Rattle.review_roots.specs.Blocks.{block_resolves, is_for}
-use Rattle.review_roots.specs.Body.Alike.{host_list}
+use Rattle.review_roots.specs.Body.Alike.{HaveAlike, host_list}
 use Rattle.review_roots.specs.Body.Raising.{passes}
 use Rattle.review_roots.proofs.ListSteps.{all-there, index-there}
 use Rattle.review_roots.proofs.LoopLemmas.{there}
@@ -16,8 +16,8 @@ returns-in-Some c =
     let m = c.args.host.now in
     let first = c.earlier.ensures c.in-Some.first c.in-Some.is in
     c.is_at.ensures
-    ∙ like-at (is_for p m) host_list c.args.blocks.now c.args.alike.now c.args.on.now c.args.index c.in-Some.first (hosts-alike p m)
-    c.requires.alike first.0 first.1 c.requires.inside c.requires.known
+    ∙ like-at (is_for p m) (HaveAlike host_list) c.args.blocks.now c.args.alike.now c.args.on.now c.args.index c.in-Some.first
+    (hosts-alike p m) c.requires.alike first.0 first.1 c.requires.inside c.requires.known
 
 pub lists_host-requires : goal.lists_host-requires
 lists_host-requires c =

@@ -7,6 +7,7 @@ use Rattle.review_roots.proofs.LikeLemmas.{like-told, tell-more}
 use Rattle.review_roots.proofs.LoopLemmas.{there}
 use Rattle.review_roots.specs.declared.layer.Aimed.{Aimed}
 use Rattle.review_roots.specs.Body.Found.{TellLike}
+use Rattle.review_roots.proofs.AloneLemmas.{agree-all}
 use Rattle.review_roots.proofs.layer.aims_of.Goals as goal
 
 pub loop-index-preserved : goal.loop-index-preserved
@@ -38,3 +39,8 @@ has_like-is_like-requires-clause-level c =
 pub has_like-is_like-requires-clause-counted : goal.has_like-is_like-requires-clause-counted
 has_like-is_like-requires-clause-counted c =
     subst (All (λ (a : Aimed). a.aim.counted ≡ c.args.sought.counted)) (sym c.deref.ensures.value) c.loop-index.invariant.counted
+
+pub has_like-is_like-requires-clause-alone : goal.has_like-is_like-requires-clause-alone
+has_like-is_like-requires-clause-alone c =
+    agree-all c.args.steps.now c.loop-index.aims.items _ _ _ _ c.in_ok-toward.ensures.toward c.get.ensures c.deref.ensures.value
+    c.loop-index.invariant.aimed

@@ -1,15 +1,10 @@
-use Rattle.std.proofs.Common.{◌&&◌, option_copied}
-use Rattle.std.proofs.lemmas.Bool.{and_parts}
-use Rattle.sudo_grammar.specs.declared.kind.Kind.TheVariants as kind
-use Rattle.sudo_policy.specs.Resolving.{resolves, runas_resolves}
-use Rattle.review_roots.specs.Blocks.{block_resolves}
-use Rattle.review_roots.proofs.ListSteps.{all-there}
+use Rattle.std.proofs.Common.{option_copied}
+use Rattle.review_roots.specs.Body.Towards.{block_allows}
+use Rattle.review_roots.proofs.SoleLemmas.{answers-more}
 use Rattle.review_roots.proofs.toward.allowed_to.Goals as goal
 
-pub allows_runas-requires : goal.allows_runas-requires
-allows_runas-requires c =
-    let p = c.args.ground.checked.now in
-    let b = c.block-item.result in
-    (and_parts (resolves kind.User p b.users.now && resolves kind.Host p b.hosts.now) (runas_resolves p (option_copied b.runas))
-    (all-there (block_resolves p) c.args.ground.blocks.now c.loop-block.block-index b c.loop-block-test.true c.block-item.is
-    c.args.ground.resolve)).1
+pub loop-index-preserved : goal.loop-index-preserved
+loop-index-preserved c =
+    answers-more (block_allows c.args.ground.checked.now c.args.ground.directory.now c.args.user.now c.args.host.now c.args.target.now
+    (option_copied c.args.group)) c.args.ground.blocks.now c.loop-index.index c.allows_behind-stands.result c.loop-index.allowed.items
+    c.push.new.self.items c.loop-index-test.true c.allows_behind-stands.ensures c.loop-index.invariant c.in_ok-push.ensures.items

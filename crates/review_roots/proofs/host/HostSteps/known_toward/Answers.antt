@@ -1,4 +1,4 @@
-use Rattle.std.proofs.Common.{◌≡◌, ◌∙◌, Option, Some, None, ap, subst}
+use Rattle.std.proofs.Common.{◌∙◌, Option, Some, None, ap, subst}
 use Rattle.std.specs.Borrow.{Bor}
 use Rattle.review_roots.specs.declared.toward.Toward.{Toward}
 use Rattle.review_roots.specs.Body.Found.{IsTowardOf}
