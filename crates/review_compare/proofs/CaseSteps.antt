@@ -1,8 +1,7 @@
 -- Cases row by row and block by block, and the same rows one by one.
-use Rattle.std.proofs.Common.{◌≡◌, ◌≢◌, ◌<◌, ◌≤◌, ◌+◌, ◌∙◌, ℕ, suc, Bool, true, false, cond, ◌&&◌, ◌||◌, List, [], ◌∷◌, ◌++◌}
+use Rattle.std.proofs.Common.{◌≡◌, ◌≢◌, ◌<◌, ◌≤◌, ◌+◌, ◌∙◌, ℕ, suc, Bool, true, false, cond, ◌&&◌, List, [], ◌∷◌, ◌++◌}
 use Rattle.std.proofs.Common.{Option, Result, Ok, Err, Some, ap, drop, flat_map, get_or, length, map, refl, sym}
 use Rattle.std.specs.Prelude.{IfOk, bytes_eq, filter}
-use Rattle.std.specs.List.{list_any}
 use Rattle.std.proofs.Math.ListN.{drop_of_length-le}
 use Rattle.std.proofs.lemmas.List.{length-map}
 use Rattle.std.proofs.lemmas.Slice.Eq.{bytes_eq-Decides}
@@ -41,17 +40,6 @@ module _ (c x : List ℕ) where
   rows-append k [] es = refl
   rows-append k (d ∷ ds) es = rows-append (with_row_if c x k d) ds es
 
-  -- rows that do not fit add nothing
-  unfit-rows : (k : Cases) (ds : List Decider) → list_any (λ d. command_fits d.atom c x) ds ≡ false → with_rows c x k ds ≡ k
-  unfit-rows k [] e = refl
-  unfit-rows k (d ∷ ds) e =
-      let both = neither (command_fits d.atom c x) (list_any (λ y. command_fits y.atom c x) ds) e in
-      ap (λ b. with_rows c x (cond b (with_row k d) k) ds) both.0 ∙ unfit-rows k ds both.1
-    where
-      neither : (a b : Bool) → (a || b) ≡ false → (a ≡ false) × (b ≡ false)
-      neither false b h = (refl, h)
-      neither true b h = cc
-
   -- one row of a block more
   pub row-next : (k : Cases) (b : Block) (i : ℕ) (r : BlockRow) → i < length b.rows.items → r ≡ get_or b.rows.items i r →
       with_rows c x k (map (block_decider b) (drop i b.rows.items))
@@ -67,14 +55,6 @@ module _ (c x : List ℕ) where
   -- ---- Blocks
 
   module _ (p : Policy) (q : Question) where
-    pub unfit-block : (k : Cases) (b : Block) → list_any (λ d. command_fits d.atom c x) (deciders_of b) ≡ false →
-        with_rows c x k (standing p q b) ≡ k
-    unfit-block k b none = by (block_stands p q b)
-      where
-        by : (s : Bool) → with_rows c x k (cond s (map (block_decider b) b.rows.items) []) ≡ k
-        by true = unfit-rows k (deciders_of b) none
-        by false = refl
-
     pub away-block : (k : Cases) (b : Block) → block_stands p q b ≡ false → with_rows c x k (standing p q b) ≡ k
     away-block k b away = ap (λ s. with_rows c x k (cond s (map (block_decider b) b.rows.items) [])) away
 

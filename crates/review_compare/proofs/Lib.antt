@@ -6,6 +6,7 @@ pub mod ApartLemmas
 pub mod CellLemmas
 pub mod RulingLemmas
 pub mod ReachLemmas
+pub mod RowReachLemmas
 pub mod OverlapLemmas
 pub mod WitnessLemmas
 pub mod BlockLemmas

@@ -21,3 +21,4 @@ pub mod SharedAsks
 pub mod HostMarks
 pub mod Trials
 pub mod Reaches
+pub mod RowReaches

@@ -1,5 +1,5 @@
 //! Comparisons of blocks, kept so that the same blocks are compared once.
-ghost use Rattle.std.specs.Prelude.{◌≡◌, ◌<◌, All, get_or, IfOk, IfSome, length, OnOk, true};
+ghost use Rattle.std.specs.Prelude.{◌≡◌, ◌<◌, ◌++◌, ◌∷◌, [], get_or, IfOk, IfSome, length, OnOk, true};
 ghost use Rattle.review_compare.specs.declared.comparison.Comparison.{Comparison as TheComparison};
 ghost use Rattle.review_compare.specs.declared.pair.Pair.{Pair as ThePair};
 ghost use Rattle.review_compare.specs.Witnesses.{IsCompared};
@@ -8,6 +8,7 @@ ghost use Rattle.review_compare.specs.Body.Comparisons as body;
 
 use crate::compared::{Compared, compared_rows};
 use crate::copied::copied;
+use crate::finder::{Finder, digest_of_blocks};
 use crate::pair::Pair;
 use crate::side::rows_at;
 use crate::trials::Trial;
@@ -40,23 +41,62 @@ impl Comparison {
     }
 }
 
-// The most comparisons that are looked at: the last ones, since users and hosts near each other have the same blocks.
-const MOST_TRIED: usize = 512;
+/// Comparisons that are kept, and a finder of their indices by digests of their blocks.
+#[derive(Drop)]
+pub(crate) struct Comparisons {
+    all: Vec<Comparison>,
+    finder: Finder,
+}
 
-// Returns the index of a comparison of these blocks, if one of the last ones is.
-fn index_of(comparisons: &[Comparison], old: &[usize], new: &[usize]) -> Option<usize>
-    ensures { IfSome result (λ i. (i < length comparisons.now) × ((d : TheComparison)
-        → body.IsOf (get_or comparisons.now i d) old.now new.now)) }
-{
-    let mut end = comparisons.len();
-    let least = end.saturating_sub(MOST_TRIED);
-    while end > least {
-        end -= 1;
-        if comparisons[end].is_of(old, new) {
-            return Some(end);
+// The number of buckets in which comparisons are found.
+const BUCKETS: usize = 8192;
+
+// The most comparisons that are kept.
+const MOST_KEPT: usize = 8192;
+
+impl Comparisons {
+    /// Returns no comparisons. Returns `AllocError` if allocation fails.
+    pub(crate) fn none(alloc: Global) -> Result<Comparisons, AllocError>
+        ensures { IfOk result (λ none. none.all.items ≡ []) }
+    {
+        let finder = Finder::new(alloc, BUCKETS)?;
+        Ok(Comparisons {
+            all: Vec::new(alloc),
+            finder,
+        })
+    }
+
+    // Returns the index of the comparison of these blocks, if there is one.
+    fn index_of(&self, digest: usize, old: &[usize], new: &[usize]) -> Option<usize>
+        ensures { IfSome result (λ i. (i < length self.now.all.items) × ((d : TheComparison)
+            → body.IsOf (get_or self.now.all.items i d) old.now new.now)) }
+    {
+        for index in self.finder.indices(digest) {
+            if *index < self.all.len() && self.all[*index].is_of(old, new) {
+                return Some(*index);
+            }
+        }
+        None
+    }
+
+    // Forgets the comparisons, if there are too many.
+    fn trim(&mut self)
+        ensures { (p : ThePair) → body.AreRight p self.old → body.AreRight p self.new }
+    {
+        if self.all.len() >= MOST_KEPT {
+            self.all.clear();
+            self.finder.clear();
         }
     }
-    None
+
+    // Keeps a comparison.
+    fn push(&mut self, digest: usize, comparison: Comparison) -> Result<(), AllocError>
+        ensures { OnOk result (self.new.all.items ≡ self.old.all.items ++ comparison ∷ []) }
+    {
+        self.finder.add(digest, self.all.len())?;
+        self.all.push(comparison)?;
+        Ok(())
+    }
 }
 
 // Compares the near rows of the blocks at these indices.
@@ -73,6 +113,7 @@ fn compared_blocks(
     let new_rows = rows_at(alloc, &pair.parts.new, new)?;
     let trial = Trial {
         probes: &pair.probes,
+        reaches: &pair.reaches,
         parts: &pair.parts,
         old,
         new,
@@ -82,36 +123,24 @@ fn compared_blocks(
     compared_rows(alloc, &trial)
 }
 
-// The most comparisons that are kept.
-const MOST_KEPT: usize = 1024;
-
-// Forgets the comparisons, if there are too many.
-fn trim(comparisons: &mut Vec<Comparison>)
-    ensures { (p : ThePair) → All (body.IsRight p) comparisons.old.items
-        → All (body.IsRight p) comparisons.new.items }
-{
-    if comparisons.len() >= MOST_KEPT {
-        comparisons.clear();
-    }
-}
-
 // Compares the rows of the blocks at these indices, and keeps the outcome.
 fn first_found(
     alloc: Global,
     pair: &Pair<'_>,
-    comparisons: &mut Vec<Comparison>,
+    comparisons: &mut Comparisons,
+    digest: usize,
     old: Vec<usize>,
     new: Vec<usize>,
 ) -> Result<Compared, AllocError>
-    requires { All (body.IsRight pair.now) comparisons.old.items }
+    requires { body.AreRight pair.now comparisons.old }
     ensures found { IfOk result (IsCompared (chosen pair.entry.now.parts.old.items
         old.items) (chosen pair.entry.now.parts.new.items new.items)) }
-    ensures right { OnOk result (All (body.IsRight pair.entry.now) comparisons.new.items) }
+    ensures right { OnOk result (body.AreRight pair.entry.now comparisons.new) }
 {
     let found = compared_blocks(alloc, pair, &old, &new)?;
     let copy = copied(alloc, &found)?;
-    trim(comparisons);
-    comparisons.push(Comparison { old, new, found })?;
+    comparisons.trim();
+    comparisons.push(digest, Comparison { old, new, found })?;
     Ok(copy)
 }
 
@@ -120,17 +149,18 @@ fn first_found(
 pub(crate) fn found_of(
     alloc: Global,
     pair: &Pair<'_>,
-    comparisons: &mut Vec<Comparison>,
+    comparisons: &mut Comparisons,
     old: Vec<usize>,
     new: Vec<usize>,
 ) -> Result<Compared, AllocError>
-    requires { All (body.IsRight pair.now) comparisons.old.items }
+    requires { body.AreRight pair.now comparisons.old }
     ensures found { IfOk result (IsCompared (chosen pair.entry.now.parts.old.items
         old.items) (chosen pair.entry.now.parts.new.items new.items)) }
-    ensures right { OnOk result (All (body.IsRight pair.entry.now) comparisons.new.items) }
+    ensures right { OnOk result (body.AreRight pair.entry.now comparisons.new) }
 {
-    match index_of(comparisons, &old, &new) {
-        Some(index) => copied(alloc, &comparisons[index].found),
-        None => first_found(alloc, pair, comparisons, old, new),
+    let digest = digest_of_blocks(&old, &new);
+    match comparisons.index_of(digest, &old, &new) {
+        Some(index) => copied(alloc, &comparisons.all[index].found),
+        None => first_found(alloc, pair, comparisons, digest, old, new),
     }
 }

@@ -6,7 +6,7 @@ ghost use Rattle.review_compare.specs.Differences as differences;
 ghost use Rattle.review_compare.specs.Body.AskClasses.{HaveAsk, IsAskClass};
 ghost use Rattle.review_compare.specs.declared.cell.Cell.{Cell};
 ghost use Rattle.review_compare.specs.Body.Classes.{AddsCells, IsClass, IsClassed};
-ghost use Rattle.review_compare.specs.Body.Comparisons.{IsRight};
+ghost use Rattle.review_compare.specs.Body.Comparisons.{AreRight};
 ghost use Rattle.review_compare.specs.Body.LineAtoms.{AreLineAtoms};
 ghost use Rattle.review_compare.specs.Body.Progress as body;
 ghost use Rattle.review_compare.specs.Body.SharedAsks.{IsSplit};
@@ -15,7 +15,7 @@ use crate::ask_class::{AskClass, ask_classes};
 use crate::asks::all_asks;
 use crate::block::{Block, blocks_of};
 use crate::cell::Ask;
-use crate::comparison::Comparison;
+use crate::comparison::Comparisons;
 use crate::finder::Finder;
 use crate::host_class::{HostClass, add_spot, rows_of};
 use crate::lines::line_atoms;
@@ -90,20 +90,20 @@ fn add_host<'a>(
     listed: &Listed,
     asked: &[AskClass],
     classes: &mut Vec<HostClass<'a>>,
-    comparisons: &mut Vec<Comparison>,
+    comparisons: &mut Comparisons,
 ) -> Result<(), AllocError>
     requires spot { body.IsSpot pair.now spot }
     requires listed { body.AreListedFor pair.now spot.person.now listed.now }
     requires asked { All (IsAskClass pair.now spot.person.now) asked.now }
     requires classes { All (IsClass pair.now spot.user spot.person.now asked.now)
         classes.old.items }
-    requires right { All (IsRight pair.now) comparisons.old.items }
+    requires right { AreRight pair.now comparisons.old }
     ensures added { OnOk result (AddsCells pair.entry.now classes.old.items
         (body.IsOnAsked pair.entry.now (option_copied scope.entry) spot.entry.user
         spot.entry.host (HaveAsk (body.asking pair.entry.now) asked.entry.now)) classes.new.items) }
     ensures classes { OnOk result (All (IsClass pair.entry.now spot.entry.user
         spot.entry.person.now asked.entry.now) classes.new.items) }
-    ensures right { OnOk result (All (IsRight pair.entry.now) comparisons.new.items) }
+    ensures right { OnOk result (AreRight pair.entry.now comparisons.new) }
 {
     if !is_this_host(scope, spot.machine) {
         return Ok(());
@@ -152,18 +152,18 @@ fn classes_for<'a>(
     scope: Option<&Machine>,
     listed: &Listed,
     asked: &[AskClass],
-    comparisons: &mut Vec<Comparison>,
+    comparisons: &mut Comparisons,
 ) -> Result<Vec<HostClass<'a>>, AllocError>
     requires user { slice_get pair.now.directory.now.people user ≡ Some person.now }
     requires listed { body.AreListedFor pair.now person.now listed.now }
     requires asked { All (IsAskClass pair.now person.now) asked.now }
-    requires right { All (IsRight pair.now) comparisons.old.items }
+    requires right { AreRight pair.now comparisons.old }
     ensures all { IfOk result (λ classes. (c : Cell) → body.IsOnEach pair.entry.now
         (option_copied scope.entry) user (HaveAsk (body.asking pair.entry.now) asked.entry.now) c
         → IsClassed pair.entry.now classes.items c) }
     ensures classes { IfOk result (λ classes. All (IsClass pair.entry.now user person.entry.now
         asked.entry.now) classes.items) }
-    ensures right { OnOk result (All (IsRight pair.entry.now) comparisons.new.items) }
+    ensures right { OnOk result (AreRight pair.entry.now comparisons.new) }
 {
     let mut classes = Vec::new(alloc);
     let machines = pair.directory.machines();
@@ -197,16 +197,16 @@ fn rows_for_asked(
     scope: Option<&Machine>,
     listed: &Listed,
     asked: &[AskClass],
-    comparisons: &mut Vec<Comparison>,
+    comparisons: &mut Comparisons,
 ) -> Result<Vec<Row>, AllocError>
     requires user { slice_get pair.now.directory.now.people user ≡ Some person.now }
     requires listed { body.AreListedFor pair.now person.now listed.now }
     requires asked { All (IsAskClass pair.now person.now) asked.now }
-    requires right { All (IsRight pair.now) comparisons.old.items }
+    requires right { AreRight pair.now comparisons.old }
     ensures all { IfOk result (λ rows. body.Progress pair.entry.now [] rows.items
         (body.IsOnEach pair.entry.now (option_copied scope.entry) user
         (HaveAsk (body.asking pair.entry.now) asked.entry.now))) }
-    ensures right { OnOk result (All (IsRight pair.entry.now) comparisons.new.items) }
+    ensures right { OnOk result (AreRight pair.entry.now comparisons.new) }
 {
     let classes = classes_for(alloc, pair, user, person, scope, listed, asked, comparisons)?;
     rows_of(alloc, pair, user, person, asked, &classes)
@@ -221,15 +221,15 @@ fn rows_beside(
     machine: &Machine,
     scope: Option<&Machine>,
     asks: &SplitAsks,
-    comparisons: &mut Vec<Comparison>,
+    comparisons: &mut Comparisons,
 ) -> Result<Vec<Row>, AllocError>
     requires user { slice_get pair.now.directory.now.people user ≡ Some person.now }
     requires split { IsSplit pair.now asks.now }
-    requires right { All (IsRight pair.now) comparisons.old.items }
+    requires right { AreRight pair.now comparisons.old }
     ensures all { IfOk result (λ rows. body.Progress pair.entry.now [] rows.items
         (body.IsForAsked pair.entry.now (option_copied scope.entry) user
         asks.entry.now.all.items)) }
-    ensures right { OnOk result (All (IsRight pair.entry.now) comparisons.new.items) }
+    ensures right { OnOk result (AreRight pair.entry.now comparisons.new) }
 {
     let left = asks_left(alloc, pair, person, machine, &asks.own)?;
     let listed = listed_for(alloc, pair, person)?;
@@ -254,15 +254,15 @@ fn rows_for(
     person: &Person,
     scope: Option<&Machine>,
     asks: &SplitAsks,
-    comparisons: &mut Vec<Comparison>,
+    comparisons: &mut Comparisons,
 ) -> Result<Vec<Row>, AllocError>
     requires user { slice_get pair.now.directory.now.people user ≡ Some person.now }
     requires split { IsSplit pair.now asks.now }
-    requires right { All (IsRight pair.now) comparisons.old.items }
+    requires right { AreRight pair.now comparisons.old }
     ensures all { IfOk result (λ rows. body.Progress pair.entry.now [] rows.items
         (body.IsForAsked pair.entry.now (option_copied scope.entry) user
         asks.entry.now.all.items)) }
-    ensures right { OnOk result (All (IsRight pair.entry.now) comparisons.new.items) }
+    ensures right { OnOk result (AreRight pair.entry.now comparisons.new) }
 {
     match pair.directory.machines().first() {
         None => Ok(Vec::new(alloc)),
@@ -280,17 +280,17 @@ fn add_user(
     person: &Person,
     scope: Scope<'_>,
     asks: &SplitAsks,
-    comparisons: &mut Vec<Comparison>,
+    comparisons: &mut Comparisons,
     rows: &mut Vec<Row>,
     finder: &mut Finder,
 ) -> Result<(), AllocError>
     requires user { slice_get pair.now.directory.now.people user ≡ Some person.now }
     requires split { IsSplit pair.now asks.now }
-    requires right { All (IsRight pair.now) comparisons.old.items }
+    requires right { AreRight pair.now comparisons.old }
     ensures added { OnOk result (body.Progress pair.entry.now rows.old.items rows.new.items
         (body.IsForUser pair.entry.now (option_copied scope.entry.user)
         (option_copied scope.entry.host) user asks.entry.now.all.items)) }
-    ensures right { OnOk result (All (IsRight pair.entry.now) comparisons.new.items) }
+    ensures right { OnOk result (AreRight pair.entry.now comparisons.new) }
 {
     if !is_this_user(scope.user, person) {
         return Ok(());
@@ -317,7 +317,7 @@ fn all_rows(
         (body.IsAsked pair.now (option_copied scope.entry.user)
         (option_copied scope.entry.host) asks.now.all.items)) }
 {
-    let mut comparisons = Vec::new(alloc);
+    let mut comparisons = Comparisons::none(alloc)?;
     let mut finder = Finder::new(alloc, BUCKETS_OF_ALL)?;
     let mut rows = Vec::new(alloc);
     let people = pair.directory.people();

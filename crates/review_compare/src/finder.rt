@@ -37,6 +37,13 @@ impl Finder {
         }
     }
 
+    /// Forgets all indices.
+    pub(crate) fn clear(&mut self) {
+        for index in 0..self.buckets.len() {
+            self.buckets[index].clear();
+        }
+    }
+
     /// Adds the index of a row with this digest. Returns `AllocError` if allocation fails.
     pub(crate) fn add(&mut self, digest: usize, index: usize) -> Result<(), AllocError> {
         let at = self.bucket(digest);
@@ -50,6 +57,18 @@ impl Finder {
 // Returns the digest with a further number.
 fn with_number(digest: usize, number: usize) -> usize {
     (digest ^ number).wrapping_mul(0x9E37_79B1).rotate_left(15)
+}
+
+/// Returns a digest of the indices of blocks of both policies.
+pub(crate) fn digest_of_blocks(old: &[usize], new: &[usize]) -> usize {
+    let mut digest = with_number(old.len(), new.len());
+    for index in old {
+        digest = with_number(digest, *index);
+    }
+    for index in new {
+        digest = with_number(digest, *index);
+    }
+    digest
 }
 
 // How many numbers of a list a digest takes in, at most.

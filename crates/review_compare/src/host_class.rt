@@ -4,14 +4,14 @@ ghost use Rattle.review_compare.specs.declared.host_class.FoundHosts.{FoundHosts
 ghost use Rattle.review_compare.specs.declared.host_class.HostClass.{HostClass as TheHostClass};
 ghost use Rattle.review_compare.specs.Body.AskClasses.{AreAsked, HaveAsk, IsAskClass};
 ghost use Rattle.review_compare.specs.Body.Classes as of_hosts;
-ghost use Rattle.review_compare.specs.Body.Comparisons.{IsRight};
+ghost use Rattle.review_compare.specs.Body.Comparisons.{AreRight};
 ghost use Rattle.review_compare.specs.Body.Merged.{IsOnAmong};
 ghost use Rattle.review_compare.specs.Body.Progress as body;
 
 use crate::alike::is_same_found;
 use crate::ask_class::AskClass;
 use crate::compared::Compared;
-use crate::comparison::{Comparison, are_same_indices};
+use crate::comparison::{Comparisons, are_same_indices};
 use crate::finder::Finder;
 use crate::pair::Pair;
 use crate::row::{BUCKETS, Row, merged};
@@ -69,19 +69,19 @@ fn begin_class<'a>(
     listed: Listed,
     asked: &[AskClass],
     classes: &mut Vec<HostClass<'a>>,
-    comparisons: &mut Vec<Comparison>,
+    comparisons: &mut Comparisons,
 ) -> Result<(), AllocError>
     requires spot { body.IsSpot pair.now spot }
     requires listed { body.AreListedIn pair.now spot listed }
     requires asked { All (IsAskClass pair.now spot.person.now) asked.now }
     requires classes { All (of_hosts.IsClass pair.now spot.user spot.person.now asked.now)
         classes.old.items }
-    requires right { All (IsRight pair.now) comparisons.old.items }
+    requires right { AreRight pair.now comparisons.old }
     ensures added { OnOk result (of_hosts.AddsHosts classes.old.items (spot.entry.host ∷ [])
         classes.new.items) }
     ensures classes { OnOk result (All (of_hosts.IsClass pair.entry.now spot.entry.user
         spot.entry.person.now asked.entry.now) classes.new.items) }
-    ensures right { OnOk result (All (IsRight pair.entry.now) comparisons.new.items) }
+    ensures right { OnOk result (AreRight pair.entry.now comparisons.new) }
 {
     let founds = founds_at(alloc, pair, spot, asked, comparisons)?;
     let mut hosts = Vec::new(alloc);
@@ -128,19 +128,19 @@ pub(crate) fn add_spot<'a>(
     listed: Listed,
     asked: &[AskClass],
     classes: &mut Vec<HostClass<'a>>,
-    comparisons: &mut Vec<Comparison>,
+    comparisons: &mut Comparisons,
 ) -> Result<(), AllocError>
     requires spot { body.IsSpot pair.now spot }
     requires listed { body.AreListedIn pair.now spot listed }
     requires asked { All (IsAskClass pair.now spot.person.now) asked.now }
     requires classes { All (of_hosts.IsClass pair.now spot.user spot.person.now asked.now)
         classes.old.items }
-    requires right { All (IsRight pair.now) comparisons.old.items }
+    requires right { AreRight pair.now comparisons.old }
     ensures added { OnOk result (of_hosts.AddsHosts classes.old.items (spot.entry.host ∷ [])
         classes.new.items) }
     ensures classes { OnOk result (All (of_hosts.IsClass pair.entry.now spot.entry.user
         spot.entry.person.now asked.entry.now) classes.new.items) }
-    ensures right { OnOk result (All (IsRight pair.entry.now) comparisons.new.items) }
+    ensures right { OnOk result (AreRight pair.entry.now comparisons.new) }
 {
     match class_index(classes, &listed) {
         Some(index) => add_moved(pair, spot, &listed, asked, index, classes),

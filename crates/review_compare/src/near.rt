@@ -16,8 +16,12 @@ use crate::text::atom_copied;
 use std::alloc::{AllocError, Global};
 use sudo_text::Place;
 
-// Returns the indices of the blocks between the common prefix and suffix.
-fn middle(alloc: Global, blocks: &[Block<'_>], common: Common) -> Result<Vec<usize>, AllocError>
+/// Returns the indices of the blocks between the common prefix and suffix. Returns `AllocError` if allocation fails.
+pub(crate) fn middle(
+    alloc: Global,
+    blocks: &[Block<'_>],
+    common: Common,
+) -> Result<Vec<usize>, AllocError>
     ensures { IfOk result (λ indices. indices.items ≡ body.middle common blocks.now) }
 {
     let mut indices = Vec::new(alloc);

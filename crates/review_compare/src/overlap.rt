@@ -5,11 +5,14 @@ ghost use Rattle.review_compare.specs.Cells as cells;
 ghost use Rattle.review_compare.specs.Witnesses.{RowsSaySame};
 ghost use Rattle.review_compare.specs.Body.Reaches as spec;
 ghost use Rattle.review_compare.specs.Body.Shown as body;
+ghost use Rattle.review_compare.specs.Body.Trials.{IsTrial};
 
 use crate::answer::is_same_answer;
 use crate::changed::{same_back, same_front};
 use crate::reach::{Reach, is_covered_from, reaches_of};
+use crate::row_reaches::reaches_by;
 use crate::ruling::{Overlap, Ruled};
+use crate::trials::Trial;
 use std::alloc::{AllocError, Global};
 
 // The rows of two policies for a target, where those at the front and at the back are the same; and for each between these up to
@@ -60,6 +63,38 @@ impl<'r, 'a> Rows<'r, 'a> {
         let new_end = new.len() - back;
         let of_old = reaches_of(alloc, old, new, &old[front..old_end])?;
         let of_new = reaches_of(alloc, old, new, &new[front..new_end])?;
+        Ok(Rows {
+            old,
+            new,
+            front,
+            old_end,
+            new_end,
+            of_old,
+            of_new,
+        })
+    }
+
+    // Returns the rows of a trial, of which so many are the same at the front and at the back.
+    fn tried(
+        alloc: Global,
+        trial: &Trial<'r, 'a>,
+        front: usize,
+        back: usize,
+    ) -> Result<Rows<'r, 'r>, AllocError>
+        requires trial { IsTrial trial.now }
+        requires old { front + back ≤ length trial.now.old_rows.now }
+        requires new { front + back ≤ length trial.now.new_rows.now }
+        ensures rows { IfOk result (λ rows. (rows.old.now ≡ trial.now.old_rows.now)
+            × (rows.new.now ≡ trial.now.new_rows.now)) }
+        ensures ends { IfOk result (λ rows. (rows.front ≡ front)
+            × (rows.old_end ≡ length trial.now.old_rows.now - back)
+            × (rows.new_end ≡ length trial.now.new_rows.now - back)) }
+    {
+        let (old, new) = (trial.old_rows, trial.new_rows);
+        let old_end = old.len() - back;
+        let new_end = new.len() - back;
+        let of_old = reaches_by(alloc, trial, &old[front..old_end])?;
+        let of_new = reaches_by(alloc, trial, &new[front..new_end])?;
         Ok(Rows {
             old,
             new,
@@ -239,5 +274,24 @@ pub(crate) fn first_overlap<'a>(
     let front = same_front(old, new);
     let back = same_back(&old[front..], &new[front..]);
     let rows = Rows::of(alloc, old, new, front, back)?;
+    Ok(rows.first_unlike())
+}
+
+/// Returns the same of the rows of a trial. Returns `AllocError` if allocation fails.
+pub(crate) fn tried_overlap<'t>(
+    alloc: Global,
+    trial: &Trial<'t, '_>,
+) -> Result<Option<Overlap<'t>>, AllocError>
+    requires { IsTrial trial.now }
+    ensures none { IfOk result (λ found. is_some found ≡ false
+        → RowsSaySame (body.all_shown trial.now.old_rows.now)
+        (body.all_shown trial.now.new_rows.now)) }
+    ensures are_open { IfOk result (λ found. IfSome found (body.AreOpen trial.now.old_rows.now
+        trial.now.new_rows.now)) }
+{
+    let (old, new) = (trial.old_rows, trial.new_rows);
+    let front = same_front(old, new);
+    let back = same_back(&old[front..], &new[front..]);
+    let rows = Rows::tried(alloc, trial, front, back)?;
     Ok(rows.first_unlike())
 }

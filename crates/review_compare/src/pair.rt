@@ -7,6 +7,7 @@ ghost use Rattle.review_compare.specs.Cells.{SaySame};
 ghost use Rattle.review_compare.specs.Differences.{known_at};
 ghost use Rattle.review_compare.specs.Body.HostMarks.{HaveHostMarks};
 ghost use Rattle.review_compare.specs.Body.Near.{AreNear, HaveParts, changed_rows};
+ghost use Rattle.review_compare.specs.Body.RowReaches.{HaveReaches};
 ghost use Rattle.review_compare.specs.Body.Unchanged.{AreCommon};
 
 use crate::asks::{group_at, person_at};
@@ -14,7 +15,8 @@ use crate::cell::Ask;
 use crate::common::{Common, common_of};
 use crate::host_marks::{HostMarks, host_marks};
 use crate::near::{Parts, changed_rows, near_change, parts_near};
-use crate::probes::Probes;
+use crate::probes::{Change, Probes};
+use crate::row_reaches::Reaches;
 use crate::side::Side;
 use crate::spot::Listed;
 use std::alloc::{AllocError, Global};
@@ -33,6 +35,7 @@ pub(crate) struct Pair<'a> {
     pub(crate) near: Listed,
     pub(crate) parts: Parts<'a>,
     pub(crate) probes: Probes,
+    pub(crate) reaches: Reaches<'a>,
     pub(crate) marks: Vec<HostMarks>,
     ghost are_common: { AreCommon old.checked.now old.blocks.items new.checked.now
         new.blocks.items common },
@@ -40,6 +43,7 @@ pub(crate) struct Pair<'a> {
     ghost are_near: { AreNear common old.blocks.items new.blocks.items near },
     ghost old_parts: { HaveParts (changed_rows common old.blocks.items new.blocks.items)
         old.blocks.items parts.old.items },
+    ghost are_reaches: { HaveReaches parts reaches },
     ghost new_parts: { HaveParts (changed_rows common old.blocks.items new.blocks.items)
         new.blocks.items parts.new.items },
 }
@@ -53,7 +57,12 @@ fn probes_near(
     parts: &Parts<'_>,
 ) -> Result<Probes, AllocError> {
     let changed = changed_rows(alloc, &old.blocks, &new.blocks, common)?;
-    Probes::of(alloc, &changed, parts)
+    let change = Change {
+        common,
+        rows: &changed,
+        parts,
+    };
+    Probes::of(alloc, &change)
 }
 
 impl<'a> Pair<'a> {
@@ -74,6 +83,7 @@ impl<'a> Pair<'a> {
         let near = near_change(alloc, &old, &new, common)?;
         let parts = parts_near(alloc, &old, &new, common)?;
         let probes = probes_near(alloc, &old, &new, common, &parts)?;
+        let reaches = Reaches::of(alloc, &old, &new, common, &parts)?;
         let marks = host_marks(alloc, &old, &new, common, &near, directory)?;
         Ok(Pair {
             old,
@@ -84,6 +94,7 @@ impl<'a> Pair<'a> {
             near,
             parts,
             probes,
+            reaches,
             marks,
         })
     }

@@ -1,14 +1,18 @@
 //! Commands that rows near a change fit, and the rows that fit their paths. They are hints: what is found by them is checked before
 //! it is used.
+ghost use Rattle.std.specs.Prelude.{◌≤◌, length};
+
 use crate::block::{Block, BlockRow};
 use crate::candidates::{Candidate, FILLS, own_candidate, own_path, push_given, rare_path};
+use crate::common::Common;
+use crate::index_set::IndexSet;
 use crate::near::Parts;
 use crate::ruling::Ruled;
 use crate::shape::Shape;
 use std::alloc::{AllocError, Global};
 use sudo_base::Names;
 use sudo_grammar::Atom;
-use sudo_match::{Pattern, Slash};
+use sudo_match::{Pattern, Slash, command_matches};
 
 /// A row of a block, by their indices.
 #[derive(Clone, Copy)]
@@ -17,12 +21,19 @@ pub(crate) struct RowAt {
     pub(crate) row: usize,
 }
 
-/// The path of a command, and the rows of both policies whose paths fit it, in order.
+/// Rows of a policy whose paths fit a command, in order, and the blocks that have one.
+#[derive(Drop)]
+pub(crate) struct Fitting {
+    rows: Vec<RowAt>,
+    blocks: IndexSet,
+}
+
+/// The path of a command, and the rows of both policies whose paths fit it.
 #[derive(Drop)]
 pub(crate) struct Path {
     pub(crate) text: Vec<u8>,
-    pub(crate) old: Vec<RowAt>,
-    pub(crate) new: Vec<RowAt>,
+    pub(crate) old: Fitting,
+    pub(crate) new: Fitting,
 }
 
 /// A command with arguments that one row fits, by the index of its path.
@@ -40,6 +51,14 @@ pub(crate) struct BlockProbes {
     pub(crate) arguments: Vec<Vec<u8>>,
 }
 
+/// The commands with arguments that a row of a block of the common suffix fits, and the paths that one fits with whichever arguments, by
+/// their indices: where the block stands, both policies say the same to them.
+#[derive(Drop)]
+pub(crate) struct Settled {
+    pub(crate) own: IndexSet,
+    pub(crate) paths: IndexSet,
+}
+
 /// Paths of commands with the rows that fit them, commands with arguments, and what each block of both policies gives to try.
 #[derive(Drop)]
 pub(crate) struct Probes {
@@ -49,6 +68,8 @@ pub(crate) struct Probes {
     pub(crate) new: Vec<BlockProbes>,
     /// The path of a command that few patterns fit.
     pub(crate) rare: Option<usize>,
+    /// What each block of the new policy settles.
+    pub(crate) settled: Vec<Settled>,
 }
 
 // The most tests of a path against the path of a row. Paths past these are not tried.
@@ -71,6 +92,14 @@ struct Gathered {
     rows: usize,
 }
 
+/// A change: its common prefix and suffix, the rows between these, and the blocks with their near rows alone.
+#[derive(Clone, Copy)]
+pub(crate) struct Change<'c, 'p, 'a> {
+    pub(crate) common: Common,
+    pub(crate) rows: &'c [Ruled<'c>],
+    pub(crate) parts: &'p Parts<'a>,
+}
+
 // Whether the path of the command of a policy fits the command, whatever its arguments are.
 fn fits_path(shape: &Shape, command: &[u8]) -> bool {
     match &shape.atom {
@@ -90,19 +119,44 @@ fn may_differ(changed: &[Ruled<'_>], command: &[u8]) -> bool {
     false
 }
 
-// Appends the rows of a block whose paths fit the command.
-fn push_fitting(
-    rows: &[BlockRow<'_>],
-    block: usize,
-    command: &[u8],
-    fitting: &mut Vec<RowAt>,
-) -> Result<(), AllocError> {
-    for row in 0..rows.len() {
-        if fits_path(&rows[row].shape, command) {
-            fitting.push(RowAt { block, row })?;
+// Returns how many rows at the front are of the block.
+fn count_in(rows: &[RowAt], block: usize) -> usize
+    ensures { result ≤ length rows.now }
+{
+    for count in 0..rows.len() {
+        if rows[count].block != block {
+            return count;
         }
     }
-    Ok(())
+    rows.len()
+}
+
+impl Fitting {
+    /// Returns the rows of a block.
+    pub(crate) fn in_block(&self, block: usize) -> &[RowAt] {
+        if !self.blocks.has(block) {
+            return &[];
+        }
+        let behind = self.rows.as_slice();
+        let behind = &behind[behind.partition_point(|at| at.block < block)..];
+        &behind[..count_in(behind, block)]
+    }
+
+    // Appends the rows of a block whose paths fit the command.
+    fn push_block(
+        &mut self,
+        rows: &[BlockRow<'_>],
+        block: usize,
+        command: &[u8],
+    ) -> Result<(), AllocError> {
+        for row in 0..rows.len() {
+            if fits_path(&rows[row].shape, command) {
+                self.rows.push(RowAt { block, row })?;
+                self.blocks.add(block);
+            }
+        }
+        Ok(())
+    }
 }
 
 // Returns the rows of blocks whose paths fit the command.
@@ -110,21 +164,40 @@ fn fitting_rows(
     alloc: Global,
     blocks: &[Block<'_>],
     command: &[u8],
-) -> Result<Vec<RowAt>, AllocError> {
-    let mut fitting = Vec::new(alloc);
+) -> Result<Fitting, AllocError> {
+    let mut fitting = Fitting {
+        rows: Vec::new(alloc),
+        blocks: IndexSet::below(alloc, blocks.len())?,
+    };
     for block in 0..blocks.len() {
-        push_fitting(&blocks[block].rows, block, command, &mut fitting)?;
+        fitting.push_block(&blocks[block].rows, block, command)?;
     }
     Ok(fitting)
 }
 
-// Returns how many rows blocks have.
-fn row_count(blocks: &[Block<'_>]) -> usize {
+/// Returns how many rows blocks have.
+pub(crate) fn row_count(blocks: &[Block<'_>]) -> usize {
     let mut count = 0usize;
     for block in blocks {
         count = count.saturating_add(block.rows.len());
     }
     count
+}
+
+/// Whether the arguments of the row fit, where its path does.
+pub(crate) fn fits_arguments(shape: &Shape, command: &[u8], arguments: &[u8]) -> bool {
+    match &shape.atom {
+        Atom::Command { args: None, .. } => true,
+        atom => command_matches(atom, command, arguments),
+    }
+}
+
+/// Whether the row fits its path with whichever arguments.
+pub(crate) fn takes_any(shape: &Shape) -> bool {
+    match &shape.atom {
+        Atom::All | Atom::Command { args: None, .. } => true,
+        _ => false,
+    }
 }
 
 // Returns a path with the rows that fit it.
@@ -149,7 +222,7 @@ impl Gathered {
 
     // Appends a path, if so many rows are left, and returns its index.
     fn push_path(&mut self, path: Path) -> Result<usize, AllocError> {
-        let rows = path.old.len().saturating_add(path.new.len());
+        let rows = path.old.rows.len().saturating_add(path.new.rows.len());
         let Some(left) = self.rows.checked_sub(rows) else {
             return Ok(NO_PATH);
         };
@@ -163,18 +236,18 @@ impl Gathered {
     fn new_index(
         &mut self,
         alloc: Global,
-        changed: &[Ruled<'_>],
-        parts: &Parts<'_>,
+        change: &Change<'_, '_, '_>,
         text: &[u8],
     ) -> Result<usize, AllocError> {
-        if !self.spend(changed.len()) || !may_differ(changed, text) {
+        if !self.spend(change.rows.len()) || !may_differ(change.rows, text) {
             return Ok(NO_PATH);
         }
+        let parts = change.parts;
         let tests = row_count(&parts.old).saturating_add(row_count(&parts.new));
         if !self.spend(tests) {
             return Ok(NO_PATH);
         }
-        let path = path_of(alloc, parts, text)?;
+        let path = path_of(alloc, change.parts, text)?;
         self.push_path(path)
     }
 
@@ -182,14 +255,13 @@ impl Gathered {
     fn index_of(
         &mut self,
         alloc: Global,
-        changed: &[Ruled<'_>],
-        parts: &Parts<'_>,
+        change: &Change<'_, '_, '_>,
         text: &[u8],
     ) -> Result<usize, AllocError> {
         if let Some(index) = self.met.get(text) {
             return Ok(index);
         }
-        let index = self.new_index(alloc, changed, parts, text)?;
+        let index = self.new_index(alloc, change, text)?;
         if self.met.get(text).is_none() {
             self.met.insert(alloc, text, index)?;
         }
@@ -231,13 +303,12 @@ impl BlockProbes {
         &mut self,
         alloc: Global,
         gathered: &mut Gathered,
-        changed: &[Ruled<'_>],
-        parts: &Parts<'_>,
+        change: &Change<'_, '_, '_>,
         shape: &Shape,
         fill: &[u8],
     ) -> Result<(), AllocError> {
         let text = own_candidate(alloc, shape, fill)?;
-        let path = gathered.index_of(alloc, changed, parts, &text.command)?;
+        let path = gathered.index_of(alloc, change, &text.command)?;
         if path != NO_PATH {
             let index = gathered.own_index(alloc, path, text)?;
             self.own.push(index)?;
@@ -250,15 +321,14 @@ impl BlockProbes {
         &mut self,
         alloc: Global,
         gathered: &mut Gathered,
-        changed: &[Ruled<'_>],
-        parts: &Parts<'_>,
+        change: &Change<'_, '_, '_>,
         shape: &Shape,
     ) -> Result<(), AllocError> {
         for fill in &FILLS {
-            self.push_own(alloc, gathered, changed, parts, shape, fill)?;
+            self.push_own(alloc, gathered, change, shape, fill)?;
         }
         let text = own_path(alloc, shape)?;
-        let path = gathered.index_of(alloc, changed, parts, &text)?;
+        let path = gathered.index_of(alloc, change, &text)?;
         if path != NO_PATH && !self.paths.contains(&path) {
             self.paths.push(path)?;
         }
@@ -270,8 +340,7 @@ impl BlockProbes {
 fn probes_of(
     alloc: Global,
     gathered: &mut Gathered,
-    changed: &[Ruled<'_>],
-    parts: &Parts<'_>,
+    change: &Change<'_, '_, '_>,
     block: &Block<'_>,
 ) -> Result<BlockProbes, AllocError> {
     let mut probes = BlockProbes {
@@ -280,7 +349,7 @@ fn probes_of(
         arguments: Vec::new(alloc),
     };
     for row in &block.rows {
-        probes.push_row(alloc, gathered, changed, parts, &row.shape)?;
+        probes.push_row(alloc, gathered, change, &row.shape)?;
     }
     Ok(probes)
 }
@@ -289,25 +358,92 @@ fn probes_of(
 fn probes_of_all(
     alloc: Global,
     gathered: &mut Gathered,
-    changed: &[Ruled<'_>],
-    parts: &Parts<'_>,
+    change: &Change<'_, '_, '_>,
     blocks: &[Block<'_>],
 ) -> Result<Vec<BlockProbes>, AllocError> {
     let mut probes = Vec::new(alloc);
     for block in blocks {
-        probes.push(probes_of(alloc, gathered, changed, parts, block)?)?;
+        probes.push(probes_of(alloc, gathered, change, block)?)?;
     }
     Ok(probes)
+}
+
+// Returns that the blocks settle nothing.
+fn nothing_settled(
+    alloc: Global,
+    blocks: usize,
+    own: usize,
+    paths: usize,
+) -> Result<Vec<Settled>, AllocError> {
+    let mut settled = Vec::new(alloc);
+    for _ in 0..blocks {
+        let own = IndexSet::below(alloc, own)?;
+        let paths = IndexSet::below(alloc, paths)?;
+        settled.push(Settled { own, paths })?;
+    }
+    Ok(settled)
+}
+
+// Returns the shape of the row of the new policy at a position, if its block is one of the common suffix.
+fn shape_behind<'p>(change: &Change<'_, 'p, '_>, at: RowAt) -> Option<&'p Shape> {
+    let blocks = change.parts.new.as_slice();
+    if at.block < blocks.len().saturating_sub(change.common.back) {
+        return None;
+    }
+    Some(&blocks.get(at.block)?.rows.get(at.row)?.shape)
+}
+
+// Adds the path at an index to what the blocks settle that have a row for it with whichever arguments.
+fn settle_path(change: &Change<'_, '_, '_>, path: &Path, index: usize, settled: &mut [Settled]) {
+    for at in &path.new.rows {
+        if let (Some(shape), Some(block)) = (shape_behind(change, *at), settled.get_mut(at.block)) {
+            if takes_any(shape) {
+                block.paths.add(index);
+            }
+        }
+    }
+}
+
+// Adds the command with arguments at an index to what the blocks settle that have a row that fits it.
+fn settle_own(
+    change: &Change<'_, '_, '_>,
+    path: &Path,
+    arguments: &[u8],
+    index: usize,
+    settled: &mut [Settled],
+) {
+    for at in &path.new.rows {
+        if let (Some(shape), Some(block)) = (shape_behind(change, *at), settled.get_mut(at.block)) {
+            if fits_arguments(shape, &path.text, arguments) {
+                block.own.add(index);
+            }
+        }
+    }
+}
+
+// Returns what each block of the new policy settles.
+fn settled_by(
+    alloc: Global,
+    change: &Change<'_, '_, '_>,
+    paths: &[Path],
+    own: &[Own],
+) -> Result<Vec<Settled>, AllocError> {
+    let mut settled = nothing_settled(alloc, change.parts.new.len(), own.len(), paths.len())?;
+    for index in 0..paths.len() {
+        settle_path(change, &paths[index], index, &mut settled);
+    }
+    for index in 0..own.len() {
+        if let Some(path) = paths.get(own[index].path) {
+            settle_own(change, path, &own[index].arguments, index, &mut settled);
+        }
+    }
+    Ok(settled)
 }
 
 impl Probes {
     /// Returns what the near rows of both policies give to try: of each pattern the stars are left out, or stand for an `x`. Returns
     /// `AllocError` if allocation fails.
-    pub(crate) fn of(
-        alloc: Global,
-        changed: &[Ruled<'_>],
-        parts: &Parts<'_>,
-    ) -> Result<Probes, AllocError> {
+    pub(crate) fn of(alloc: Global, change: &Change<'_, '_, '_>) -> Result<Probes, AllocError> {
         let mut gathered = Gathered {
             paths: Vec::new(alloc),
             met: Names::new(alloc),
@@ -316,18 +452,20 @@ impl Probes {
             tests: MOST_TESTS,
             rows: MOST_ROWS,
         };
-        let new = probes_of_all(alloc, &mut gathered, changed, parts, &parts.new)?;
-        let old = probes_of_all(alloc, &mut gathered, changed, parts, &parts.old)?;
+        let new = probes_of_all(alloc, &mut gathered, change, &change.parts.new)?;
+        let old = probes_of_all(alloc, &mut gathered, change, &change.parts.old)?;
         let rare = rare_path(alloc)?;
-        let rare = gathered.index_of(alloc, changed, parts, &rare)?;
+        let rare = gathered.index_of(alloc, change, &rare)?;
         let rare = if rare == NO_PATH { None } else { Some(rare) };
         let Gathered { paths, own, .. } = gathered;
+        let settled = settled_by(alloc, change, &paths, &own)?;
         Ok(Probes {
             paths,
             own,
             old,
             new,
             rare,
+            settled,
         })
     }
 }

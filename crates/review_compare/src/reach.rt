@@ -23,8 +23,8 @@ impl Reach {
     }
 }
 
-// Returns how many of the rows there are up to the last that applies wherever the other does.
-fn reach_in(rows: &[Ruled<'_>], other: &Ruled<'_>) -> usize
+/// Returns how many of the rows there are up to the last that applies wherever the other does.
+pub(crate) fn reach_in(rows: &[Ruled<'_>], other: &Ruled<'_>) -> usize
     ensures { result ≡ body.reach (all_shown rows.now) (cells.lined_of (shown other.now)) }
 {
     let mut end = rows.len();

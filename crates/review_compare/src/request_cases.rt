@@ -1,7 +1,6 @@
 //! What policies with notes may say to requests, and what their answers depend on.
 ghost use Rattle.std.specs.Prelude.{◌≡◌, filter, flat_map, IfOk, IfSome, is_some, IsTrue, MatchResult, OnOk, Ok, Err};
 ghost use Rattle.std.specs.List.{list_all, list_any};
-ghost use Rattle.sudo_match.specs.Matching.{command_fits};
 ghost use Rattle.sudo_verdict.specs.Grants.{grants};
 ghost use Rattle.sudo_verdict.specs.Questions.{question_of};
 ghost use Rattle.sudo_verdict.specs.Verdicts.{verdict_of};
@@ -89,19 +88,6 @@ fn asker_of<'a>(directory: &'a Directory, request: &Request) -> Result<Asker<'a>
     })
 }
 
-// Whether one of the rows of a block fits the command.
-fn fits_any(block: &Block<'_>, command: &[u8], arguments: &[u8]) -> bool
-    ensures { result ≡ list_any (λ d. command_fits d.atom command.now arguments.now)
-        (deciders_of block.now) }
-{
-    for row in &block.rows {
-        if row.shape.fits(command, arguments) {
-            return true;
-        }
-    }
-    false
-}
-
 // Adds the rows of a block that fit the command.
 fn add_rows<'b>(
     block: &'b Block<'_>,
@@ -151,9 +137,6 @@ fn add_block<'b>(
         (shown_cases cases.old) (standing checked.entry.now
         (body.asked_by directory.now asker.entry) block.now)) }
 {
-    if !fits_any(block, command, arguments) {
-        return Ok(());
-    }
     if !stands(checked, directory, asker, block) {
         return Ok(());
     }

@@ -273,8 +273,11 @@ impl Side<'_> {
     }
 }
 
-// Appends the rows of the block.
-fn push_rows<'b>(block: &'b Block<'_>, rows: &mut Vec<Ruled<'b>>) -> Result<(), AllocError>
+/// Appends the rows of the block. Returns `AllocError` if allocation fails.
+pub(crate) fn push_rows<'b>(
+    block: &'b Block<'_>,
+    rows: &mut Vec<Ruled<'b>>,
+) -> Result<(), AllocError>
     ensures { OnOk result (all_shown rows.new.items
         ≡ all_shown rows.old.items ++ body.deciders_of block.now) }
 {

@@ -3,14 +3,14 @@ ghost use Rattle.std.specs.Prelude.{◌≡◌, ◌∷◌, [], All, IfOk, OnOk};
 ghost use Rattle.review_compare.specs.Body.AskClasses.{AreAsked, HaveAsk, IsAskClass, IsAskedWith, on_new, on_old};
 ghost use Rattle.review_compare.specs.Differences.{Asking};
 ghost use Rattle.review_compare.specs.Witnesses.{IsCompared};
-ghost use Rattle.review_compare.specs.Body.Comparisons.{IsRight};
+ghost use Rattle.review_compare.specs.Body.Comparisons.{AreRight};
 ghost use Rattle.review_compare.specs.Body.Classes.{AreRightIn, IsRightIn};
 ghost use Rattle.review_compare.specs.Body.Merged.{AddsFound, IsOnAmong};
 ghost use Rattle.review_compare.specs.Body.Progress as body;
 
 use crate::ask_class::{AskClass, AskedWith};
 use crate::compared::Compared;
-use crate::comparison::{Comparison, found_of};
+use crate::comparison::{Comparisons, found_of};
 use crate::copied::copied;
 use crate::finder::Finder;
 use crate::pair::Pair;
@@ -40,13 +40,13 @@ fn found_on(
     pair: &Pair<'_>,
     spot: Spot<'_>,
     class: &AskClass,
-    comparisons: &mut Vec<Comparison>,
+    comparisons: &mut Comparisons,
 ) -> Result<Compared, AllocError>
     requires spot { body.IsSpot pair.now spot }
-    requires right { All (IsRight pair.now) comparisons.old.items }
+    requires right { AreRight pair.now comparisons.old }
     ensures found { IfOk result (IsCompared (on_old pair.entry.now spot.entry.machine.now
         class.now.allowing) (on_new pair.entry.now spot.entry.machine.now class.now.allowing)) }
-    ensures right { OnOk result (All (IsRight pair.entry.now) comparisons.new.items) }
+    ensures right { OnOk result (AreRight pair.entry.now comparisons.new) }
 {
     let (machine, allowing) = (spot.machine, &class.allowing);
     let old_marks = pair.old_marks(spot.host);
@@ -62,14 +62,14 @@ fn found_at(
     pair: &Pair<'_>,
     spot: Spot<'_>,
     class: &AskClass,
-    comparisons: &mut Vec<Comparison>,
+    comparisons: &mut Comparisons,
 ) -> Result<Compared, AllocError>
     requires spot { body.IsSpot pair.now spot }
     requires class { IsAskClass pair.now spot.person.now class.now }
-    requires right { All (IsRight pair.now) comparisons.old.items }
+    requires right { AreRight pair.now comparisons.old }
     ensures found { IfOk result (IsRightIn pair.entry.now spot.entry.user (spot.entry.host ∷ [])
         (AreAsked (body.asking pair.entry.now) class.entry.now.asked.items)) }
-    ensures right { OnOk result (All (IsRight pair.entry.now) comparisons.new.items) }
+    ensures right { OnOk result (AreRight pair.entry.now comparisons.new) }
 {
     found_on(alloc, pair, spot, class, comparisons)
 }
@@ -80,14 +80,14 @@ pub(crate) fn founds_at(
     pair: &Pair<'_>,
     spot: Spot<'_>,
     classes: &[AskClass],
-    comparisons: &mut Vec<Comparison>,
+    comparisons: &mut Comparisons,
 ) -> Result<Vec<Compared>, AllocError>
     requires spot { body.IsSpot pair.now spot }
     requires classes { All (IsAskClass pair.now spot.person.now) classes.now }
-    requires right { All (IsRight pair.now) comparisons.old.items }
+    requires right { AreRight pair.now comparisons.old }
     ensures founds { IfOk result (λ founds. AreRightIn pair.entry.now spot.entry.user
         (spot.entry.host ∷ []) classes.entry.now founds.items) }
-    ensures right { OnOk result (All (IsRight pair.entry.now) comparisons.new.items) }
+    ensures right { OnOk result (AreRight pair.entry.now comparisons.new) }
 {
     let mut founds = Vec::new(alloc);
     for class in classes {

@@ -6,8 +6,10 @@ ghost use Rattle.review_compare.specs.Body.Trials.{StayWitnesses};
 use crate::answer::{Answer, answer_between};
 use crate::block::{Block, BlockRow};
 use crate::candidates::{MOST_ARGUMENTS, can_be_asked};
+use crate::index_set::IndexSet;
 use crate::near::Parts;
-use crate::probes::{BlockProbes, Own, Path, Probes, RowAt};
+use crate::probes::{BlockProbes, Fitting, Own, Path, Probes, RowAt, fits_arguments, takes_any};
+use crate::row_reaches::Reaches;
 use crate::ruling::{Ruled, is_unnoted};
 use crate::shape::Shape;
 use crate::witness::{Witness, witness_of};
@@ -21,6 +23,7 @@ use sudo_text::Place;
 pub(crate) struct Trial<'t, 'a> {
     pub(crate) probes: &'t Probes,
     pub(crate) parts: &'t Parts<'a>,
+    pub(crate) reaches: &'t Reaches<'a>,
     /// The indices of the blocks.
     pub(crate) old: &'t [usize],
     pub(crate) new: &'t [usize],
@@ -28,18 +31,11 @@ pub(crate) struct Trial<'t, 'a> {
     pub(crate) new_rows: &'t [Ruled<'t>],
 }
 
-// Which blocks of both policies have the rows.
-#[derive(Drop)]
-struct Marks {
-    old: Vec<bool>,
-    new: Vec<bool>,
-}
-
-// Which commands with arguments, and which paths, were tried.
+// Which commands with arguments, and which paths, were tried or need not be.
 #[derive(Drop)]
 struct Tried {
-    own: Vec<bool>,
-    paths: Vec<bool>,
+    own: IndexSet,
+    paths: IndexSet,
 }
 
 // The number of answers.
@@ -48,81 +44,68 @@ const MOST_ANSWERS: usize = 3;
 // The place of a verdict of which only the answer counts.
 const NO_PLACE: Place = Place { file: 0, line: 0 };
 
-// Returns which of so many blocks have these indices.
-fn marked_among(alloc: Global, count: usize, indices: &[usize]) -> Result<Vec<bool>, AllocError> {
-    let mut marks = Vec::new(alloc);
-    marks.resize(count, false)?;
-    for index in indices {
-        if let Some(mark) = marks.get_mut(*index) {
-            *mark = true;
+// Returns what need not be tried, since a block of the common suffix settles it.
+fn untried(alloc: Global, trial: &Trial<'_, '_>) -> Result<Tried, AllocError> {
+    let probes = trial.probes;
+    let mut own = IndexSet::below(alloc, probes.own.len())?;
+    let mut paths = IndexSet::below(alloc, probes.paths.len())?;
+    for block in trial.new {
+        if let Some(settled) = probes.settled.get(*block) {
+            own.add_all(&settled.own);
+            paths.add_all(&settled.paths);
         }
     }
-    Ok(marks)
-}
-
-// Returns which blocks of both policies have the rows.
-fn marks_of(alloc: Global, trial: &Trial<'_, '_>) -> Result<Marks, AllocError> {
-    let old = marked_among(alloc, trial.parts.old.len(), trial.old)?;
-    let new = marked_among(alloc, trial.parts.new.len(), trial.new)?;
-    Ok(Marks { old, new })
-}
-
-// Returns that nothing was tried.
-fn untried(alloc: Global, probes: &Probes) -> Result<Tried, AllocError> {
-    let mut own = Vec::new(alloc);
-    own.resize(probes.own.len(), false)?;
-    let mut paths = Vec::new(alloc);
-    paths.resize(probes.paths.len(), false)?;
     Ok(Tried { own, paths })
 }
 
-// Whether the arguments of the row fit, where its path does.
-fn fits(shape: &Shape, command: &[u8], arguments: &[u8]) -> bool {
-    match &shape.atom {
-        Atom::Command { args: None, .. } => true,
-        atom => command_matches(atom, command, arguments),
-    }
-}
-
-// Returns the row at a position, if its block is marked.
-fn marked_row<'b, 'a>(
-    blocks: &'b [Block<'a>],
-    marks: &[bool],
-    at: RowAt,
-) -> Option<&'b BlockRow<'a>> {
-    if !*marks.get(at.block)? {
-        return None;
-    }
+// Returns the row at a position.
+fn row_of<'b, 'a>(blocks: &'b [Block<'a>], at: RowAt) -> Option<&'b BlockRow<'a>> {
     blocks.get(at.block)?.rows.get(at.row)
 }
 
-// Returns the last of the rows that stands in a marked block.
-fn last_marked<'b, 'a>(
+// Returns the last of the rows that stands in a block of these indices.
+fn last_among<'b, 'a>(
     blocks: &'b [Block<'a>],
-    marks: &[bool],
-    rows: &[RowAt],
+    indices: &[usize],
+    fitting: &Fitting,
 ) -> Option<&'b BlockRow<'a>> {
-    for back in 0..rows.len() {
-        if let Some(row) = marked_row(blocks, marks, rows[rows.len() - back - 1]) {
-            return Some(row);
+    for back in 0..indices.len() {
+        if let Some(at) = fitting.in_block(indices[indices.len() - back - 1]).last() {
+            return row_of(blocks, *at);
         }
     }
     None
 }
 
-// Returns the last row of the marked blocks that fits the command, of those whose paths fit it.
-fn deciding<'b, 'a>(
+// Returns the last of the rows that fits the command, whose path fits it.
+fn last_fitting<'b, 'a>(
     blocks: &'b [Block<'a>],
-    marks: &[bool],
     rows: &[RowAt],
     command: &[u8],
     arguments: &[u8],
 ) -> Option<&'b BlockRow<'a>> {
     for back in 0..rows.len() {
-        if let Some(row) = marked_row(blocks, marks, rows[rows.len() - back - 1]) {
-            if fits(&row.shape, command, arguments) {
+        if let Some(row) = row_of(blocks, rows[rows.len() - back - 1]) {
+            if fits_arguments(&row.shape, command, arguments) {
                 return Some(row);
             }
+        }
+    }
+    None
+}
+
+// Returns the last row of the blocks at these indices that fits the command, of those whose paths fit it.
+fn deciding<'b, 'a>(
+    blocks: &'b [Block<'a>],
+    indices: &[usize],
+    fitting: &Fitting,
+    command: &[u8],
+    arguments: &[u8],
+) -> Option<&'b BlockRow<'a>> {
+    for back in 0..indices.len() {
+        let rows = fitting.in_block(indices[indices.len() - back - 1]);
+        if let Some(row) = last_fitting(blocks, rows, command, arguments) {
+            return Some(row);
         }
     }
     None
@@ -153,13 +136,10 @@ fn answer_of(old: Option<&BlockRow<'_>>, new: Option<&BlockRow<'_>>) -> Option<A
 }
 
 // Whether the row, if there is one, fits its path with any arguments.
-fn takes_any(row: Option<&BlockRow<'_>>) -> bool {
+fn row_takes_any(row: Option<&BlockRow<'_>>) -> bool {
     match row {
         None => true,
-        Some(row) => match &row.shape.atom {
-            Atom::All | Atom::Command { args: None, .. } => true,
-            _ => false,
-        },
+        Some(row) => takes_any(&row.shape),
     }
 }
 
@@ -202,7 +182,6 @@ fn try_command(
 // Whether the command seems to be answered otherwise, and none of the witnesses has this answer.
 fn is_worth_trying(
     trial: &Trial<'_, '_>,
-    marks: &Marks,
     path: &Path,
     arguments: &[u8],
     found: &[Witness],
@@ -210,20 +189,9 @@ fn is_worth_trying(
     if found.len() >= MOST_ANSWERS || !can_be_asked(&path.text, arguments) {
         return false;
     }
-    let old = deciding(
-        &trial.parts.old,
-        &marks.old,
-        &path.old,
-        &path.text,
-        arguments,
-    );
-    let new = deciding(
-        &trial.parts.new,
-        &marks.new,
-        &path.new,
-        &path.text,
-        arguments,
-    );
+    let (parts, text) = (trial.parts, &path.text);
+    let old = deciding(&parts.old, trial.old, &path.old, text, arguments);
+    let new = deciding(&parts.new, trial.new, &path.new, text, arguments);
     match answer_of(old, new) {
         None => false,
         Some(answer) => !has_answer(found, answer),
@@ -234,14 +202,13 @@ fn is_worth_trying(
 fn try_text(
     alloc: Global,
     trial: &Trial<'_, '_>,
-    marks: &Marks,
     path: &Path,
     arguments: &[u8],
     found: &mut Vec<Witness>,
 ) -> Result<(), AllocError>
     ensures { OnOk result (StayWitnesses trial.now found.old.items found.new.items) }
 {
-    if !is_worth_trying(trial, marks, path, arguments, found) {
+    if !is_worth_trying(trial, path, arguments, found) {
         return Ok(());
     }
     try_command(alloc, trial, &path.text, arguments, found)
@@ -251,7 +218,6 @@ fn try_text(
 fn try_own(
     alloc: Global,
     trial: &Trial<'_, '_>,
-    marks: &Marks,
     text: &Own,
     found: &mut Vec<Witness>,
 ) -> Result<(), AllocError>
@@ -259,29 +225,23 @@ fn try_own(
 {
     match trial.probes.paths.get(text.path) {
         None => Ok(()),
-        Some(path) => try_text(alloc, trial, marks, path, &text.arguments, found),
+        Some(path) => try_text(alloc, trial, path, &text.arguments, found),
     }
 }
 
-// Marks an index. Returns whether it was not marked before.
-fn is_first(tried: &mut [bool], index: usize) -> bool {
-    match tried.get_mut(index) {
-        None => false,
-        Some(mark) => {
-            let first = !*mark;
-            *mark = true;
-            first
-        }
-    }
+// Adds an index. Returns whether it was not among these before.
+fn is_first(tried: &mut IndexSet, index: usize) -> bool {
+    let first = !tried.has(index);
+    tried.add(index);
+    first
 }
 
 // Tries the command with arguments at an index, unless it was tried before.
 fn try_own_at(
     alloc: Global,
     trial: &Trial<'_, '_>,
-    marks: &Marks,
     index: usize,
-    tried: &mut [bool],
+    tried: &mut IndexSet,
     found: &mut Vec<Witness>,
 ) -> Result<(), AllocError>
     ensures { OnOk result (StayWitnesses trial.now found.old.items found.new.items) }
@@ -291,7 +251,7 @@ fn try_own_at(
     }
     match trial.probes.own.get(index) {
         None => Ok(()),
-        Some(text) => try_own(alloc, trial, marks, text, found),
+        Some(text) => try_own(alloc, trial, text, found),
     }
 }
 
@@ -299,33 +259,27 @@ fn try_own_at(
 fn try_all_own(
     alloc: Global,
     trial: &Trial<'_, '_>,
-    marks: &Marks,
     indices: &[usize],
-    tried: &mut [bool],
+    tried: &mut IndexSet,
     found: &mut Vec<Witness>,
 ) -> Result<(), AllocError>
     ensures { OnOk result (StayWitnesses trial.now found.old.items found.new.items) }
 {
     for index in indices {
-        try_own_at(alloc, trial, marks, *index, tried, found)?;
+        try_own_at(alloc, trial, *index, tried, found)?;
     }
     Ok(())
 }
 
 // Whether the last rows that the path fits take any arguments: then all of them are answered alike.
-fn takes_all(trial: &Trial<'_, '_>, marks: &Marks, path: &Path) -> bool {
-    takes_any(last_marked(&trial.parts.old, &marks.old, &path.old))
-        && takes_any(last_marked(&trial.parts.new, &marks.new, &path.new))
+fn takes_all(trial: &Trial<'_, '_>, path: &Path) -> bool {
+    row_takes_any(last_among(&trial.parts.old, trial.old, &path.old))
+        && row_takes_any(last_among(&trial.parts.new, trial.new, &path.new))
 }
 
 // Returns the first of the arguments alone, if all are answered alike.
-fn needed<'g, 'u>(
-    trial: &Trial<'_, '_>,
-    marks: &Marks,
-    path: &Path,
-    given: &'g [&'u [u8]],
-) -> &'g [&'u [u8]] {
-    if given.len() > 1 && takes_all(trial, marks, path) {
+fn needed<'g, 'u>(trial: &Trial<'_, '_>, path: &Path, given: &'g [&'u [u8]]) -> &'g [&'u [u8]] {
+    if given.len() > 1 && takes_all(trial, path) {
         &given[..1]
     } else {
         given
@@ -336,15 +290,14 @@ fn needed<'g, 'u>(
 fn try_path(
     alloc: Global,
     trial: &Trial<'_, '_>,
-    marks: &Marks,
     path: &Path,
     given: &[&[u8]],
     found: &mut Vec<Witness>,
 ) -> Result<(), AllocError>
     ensures { OnOk result (StayWitnesses trial.now found.old.items found.new.items) }
 {
-    for arguments in needed(trial, marks, path, given) {
-        try_text(alloc, trial, marks, path, arguments, found)?;
+    for arguments in needed(trial, path, given) {
+        try_text(alloc, trial, path, arguments, found)?;
     }
     Ok(())
 }
@@ -353,10 +306,9 @@ fn try_path(
 fn try_path_at(
     alloc: Global,
     trial: &Trial<'_, '_>,
-    marks: &Marks,
     index: usize,
     given: &[&[u8]],
-    tried: &mut [bool],
+    tried: &mut IndexSet,
     found: &mut Vec<Witness>,
 ) -> Result<(), AllocError>
     ensures { OnOk result (StayWitnesses trial.now found.old.items found.new.items) }
@@ -366,7 +318,7 @@ fn try_path_at(
     }
     match trial.probes.paths.get(index) {
         None => Ok(()),
-        Some(path) => try_path(alloc, trial, marks, path, given, found),
+        Some(path) => try_path(alloc, trial, path, given, found),
     }
 }
 
@@ -374,16 +326,15 @@ fn try_path_at(
 fn try_paths(
     alloc: Global,
     trial: &Trial<'_, '_>,
-    marks: &Marks,
     paths: &[usize],
     given: &[&[u8]],
-    tried: &mut [bool],
+    tried: &mut IndexSet,
     found: &mut Vec<Witness>,
 ) -> Result<(), AllocError>
     ensures { OnOk result (StayWitnesses trial.now found.old.items found.new.items) }
 {
     for index in paths {
-        try_path_at(alloc, trial, marks, *index, given, tried, found)?;
+        try_path_at(alloc, trial, *index, given, tried, found)?;
     }
     Ok(())
 }
@@ -392,7 +343,6 @@ fn try_paths(
 fn try_blocks(
     alloc: Global,
     trial: &Trial<'_, '_>,
-    marks: &Marks,
     probes: &[BlockProbes],
     indices: &[usize],
     given: &[&[u8]],
@@ -401,11 +351,10 @@ fn try_blocks(
 ) -> Result<(), AllocError>
     ensures { OnOk result (StayWitnesses trial.now found.old.items found.new.items) }
 {
-    try_own_of(alloc, trial, marks, probes, indices, &mut tried.own, found)?;
+    try_own_of(alloc, trial, probes, indices, &mut tried.own, found)?;
     try_paths_of(
         alloc,
         trial,
-        marks,
         probes,
         indices,
         given,
@@ -418,17 +367,16 @@ fn try_blocks(
 fn try_own_in(
     alloc: Global,
     trial: &Trial<'_, '_>,
-    marks: &Marks,
     probes: &[BlockProbes],
     index: usize,
-    tried: &mut [bool],
+    tried: &mut IndexSet,
     found: &mut Vec<Witness>,
 ) -> Result<(), AllocError>
     ensures { OnOk result (StayWitnesses trial.now found.old.items found.new.items) }
 {
     match probes.get(index) {
         None => Ok(()),
-        Some(block) => try_all_own(alloc, trial, marks, &block.own, tried, found),
+        Some(block) => try_all_own(alloc, trial, &block.own, tried, found),
     }
 }
 
@@ -436,16 +384,15 @@ fn try_own_in(
 fn try_own_of(
     alloc: Global,
     trial: &Trial<'_, '_>,
-    marks: &Marks,
     probes: &[BlockProbes],
     indices: &[usize],
-    tried: &mut [bool],
+    tried: &mut IndexSet,
     found: &mut Vec<Witness>,
 ) -> Result<(), AllocError>
     ensures { OnOk result (StayWitnesses trial.now found.old.items found.new.items) }
 {
     for index in indices {
-        try_own_in(alloc, trial, marks, probes, *index, tried, found)?;
+        try_own_in(alloc, trial, probes, *index, tried, found)?;
     }
     Ok(())
 }
@@ -454,18 +401,17 @@ fn try_own_of(
 fn try_paths_in(
     alloc: Global,
     trial: &Trial<'_, '_>,
-    marks: &Marks,
     probes: &[BlockProbes],
     index: usize,
     given: &[&[u8]],
-    tried: &mut [bool],
+    tried: &mut IndexSet,
     found: &mut Vec<Witness>,
 ) -> Result<(), AllocError>
     ensures { OnOk result (StayWitnesses trial.now found.old.items found.new.items) }
 {
     match probes.get(index) {
         None => Ok(()),
-        Some(block) => try_paths(alloc, trial, marks, &block.paths, given, tried, found),
+        Some(block) => try_paths(alloc, trial, &block.paths, given, tried, found),
     }
 }
 
@@ -473,17 +419,16 @@ fn try_paths_in(
 fn try_paths_of(
     alloc: Global,
     trial: &Trial<'_, '_>,
-    marks: &Marks,
     probes: &[BlockProbes],
     indices: &[usize],
     given: &[&[u8]],
-    tried: &mut [bool],
+    tried: &mut IndexSet,
     found: &mut Vec<Witness>,
 ) -> Result<(), AllocError>
     ensures { OnOk result (StayWitnesses trial.now found.old.items found.new.items) }
 {
     for index in indices {
-        try_paths_in(alloc, trial, marks, probes, *index, given, tried, found)?;
+        try_paths_in(alloc, trial, probes, *index, given, tried, found)?;
     }
     Ok(())
 }
@@ -521,7 +466,6 @@ fn push_given_by<'t>(
 fn try_rare(
     alloc: Global,
     trial: &Trial<'_, '_>,
-    marks: &Marks,
     found: &mut Vec<Witness>,
 ) -> Result<(), AllocError>
     ensures { OnOk result (StayWitnesses trial.now found.old.items found.new.items) }
@@ -531,7 +475,7 @@ fn try_rare(
     };
     match trial.probes.paths.get(index) {
         None => Ok(()),
-        Some(path) => try_text(alloc, trial, marks, path, b"", found),
+        Some(path) => try_text(alloc, trial, path, b"", found),
     }
 }
 
@@ -542,19 +486,14 @@ pub(crate) fn witnesses(alloc: Global, trial: &Trial<'_, '_>) -> Result<Vec<Witn
     ensures { IfOk result (λ found. All (IsShownWitness trial.now.old_rows.now
         trial.now.new_rows.now) found.items) }
 {
-    let marks = marks_of(alloc, trial)?;
     let (old, new) = (&trial.probes.old, &trial.probes.new);
     let mut given = Vec::new(alloc);
     push_given_by(new, trial.new, &mut given)?;
     push_given_by(old, trial.old, &mut given)?;
-    let mut tried = untried(alloc, trial.probes)?;
+    let mut tried = untried(alloc, trial)?;
     let mut found = Vec::new(alloc);
-    try_blocks(
-        alloc, trial, &marks, new, trial.new, &given, &mut tried, &mut found,
-    )?;
-    try_blocks(
-        alloc, trial, &marks, old, trial.old, &given, &mut tried, &mut found,
-    )?;
-    try_rare(alloc, trial, &marks, &mut found)?;
+    try_blocks(alloc, trial, new, trial.new, &given, &mut tried, &mut found)?;
+    try_blocks(alloc, trial, old, trial.old, &given, &mut tried, &mut found)?;
+    try_rare(alloc, trial, &mut found)?;
     Ok(found)
 }

@@ -7,7 +7,7 @@ ghost use Rattle.review_compare.specs.Body.Shown as body;
 use crate::answer::{Answer, answer_between};
 use crate::ruling::{Ruled, is_unnoted};
 use std::alloc::{AllocError, Global};
-use sudo_match::{Verdict, command_matches};
+use sudo_match::Verdict;
 use sudo_text::Seq;
 
 /// A command that two policies answer differently, with both verdicts, which depend on no noted condition.
@@ -52,7 +52,7 @@ pub(crate) fn sure_verdict(rows: &[Ruled<'_>], command: &[u8], arguments: &[u8])
     while end > 0 {
         end -= 1;
         let row = &rows[end];
-        if command_matches(&row.shape.atom, command, arguments) {
+        if row.shape.fits(command, arguments) {
             return verdict_by(row);
         }
     }

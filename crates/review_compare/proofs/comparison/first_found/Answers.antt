@@ -17,6 +17,6 @@ returns c =
     c.deref-2.ensures.value c.in_ok-found.ensures) in
     record {
       found = c.in_ok-copy.ensures old new is;
-      right = subst (λ (ks : List Comparison). All (IsRight p) ks) (sym c.in_ok-push.ensures.items)
-          (All-push (IsRight p) c.trim.new.comparisons.items k (c.trim.ensures p c.requires) is);
+      right = subst (λ (ks : List Comparison). All (IsRight p) ks) (sym c.in_ok-push.ensures)
+          (All-push (IsRight p) c.trim.new.self.all.items k (c.trim.ensures p c.requires) is);
     }

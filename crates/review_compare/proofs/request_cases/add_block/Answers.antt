@@ -1,13 +1,8 @@
 use Rattle.std.proofs.Common.{◌∙◌, sym}
 use Rattle.sudo_base.proofs.Options.{on_ok}
 use Rattle.review_compare.specs.Body.Asked.{asked_by, shown_cases}
-use Rattle.review_compare.proofs.CaseSteps.{away-block, there-block, unfit-block}
+use Rattle.review_compare.proofs.CaseSteps.{away-block, there-block}
 use Rattle.review_compare.proofs.request_cases.add_block.Goals as goal
-
-pub returns-then-not-fits_any : goal.returns-then-not-fits_any
-returns-then-not-fits_any c =
-    sym (unfit-block c.args.command.now c.args.arguments.now c.args.checked.now (asked_by c.args.directory.now c.args.asker)
-    (shown_cases c.args.cases.now) c.args.block.now (sym c.fits_any.ensures ∙ c.if-not-fits_any.true))
 
 pub returns-then-not-stands : goal.returns-then-not-stands
 returns-then-not-stands c =
