@@ -1,9 +1,15 @@
 """Tests of `dev/gate`, with stubs for `rt` and `dev/wrong-bodies`, and tests of its own in the place of the tools'."""
 
+import contextlib
+import importlib.machinery
+import importlib.util
 import os
 import subprocess
 import time
 import unittest
+from collections.abc import Iterator
+from typing import Any
+from unittest import mock
 
 from support import DEV, Case
 
@@ -56,6 +62,23 @@ class Sleeping(unittest.TestCase):
 """
 
 
+def loaded(name: str) -> Any:
+    """Returns a command in dev/ as a module."""
+    loader = importlib.machinery.SourceFileLoader(name, os.path.join(DEV, name))
+    spec = importlib.util.spec_from_loader(name, loader)
+    assert spec is not None
+    module = importlib.util.module_from_spec(spec)
+    loader.exec_module(module)
+    return module
+
+
+@contextlib.contextmanager
+def chosen(folder: str, **variables: str) -> Iterator[None]:
+    """Works in a folder, with more variables of the environment."""
+    with contextlib.chdir(folder), mock.patch.dict(os.environ, variables):
+        yield
+
+
 class Gate(Case):
     def setUp(self) -> None:
         super().setUp()
@@ -63,6 +86,8 @@ class Gate(Case):
         self.write("tools/tests/test_samples.py", SAMPLES)
         for name in PROGRAMS:
             self.write(f"crates/{name}/src/main.rt", "")
+        self.write("crates.txt", "# Programs.\nlow:\nmiddle: low memchr\nsudo_audit: middle\nsudo_review: middle low\n")
+        self.write("crates/sudo_audit/must-fail/01.one.f.x.edit", "")
         self.bodies("echo 2 refused, 0 not")
 
     def bodies(self, text: str) -> None:
@@ -106,14 +131,15 @@ class Gate(Case):
         said = ["rt: low proved", "rt: low: its tests are proved", "3 passed, 0 failed"]
         self.rt(self.build() + "".join(f"echo {line}\n" for line in [*said, "40 passed, 0 failed"]))
         lines = self.gate(0)
-        self.assertEqual(lines[:3], said)
+        self.assertEqual([line for line in lines if line.startswith("rt: ") or line == said[-1]], said)
         self.assertEqual(lines[3], "gate: wrong bodies: 2 refused, 0 not")
         self.assertEqual(lines[4:6], [f"gate: the tests of the tools use crates/{name}/out/{name}" for name in PROGRAMS])
         self.assertEqual(lines[6], "prepared")
         self.assertEqual(lines[-4], "skipped: test_samples.Samples.test_is_skipped: no moon")
         self.assertEqual(lines[-3], "gate: proved after minutes: low 0, low (tests) 0")
         took = r"[0-9.]+ min \([0-9.]+ min of processor time\)"
-        parts = f"rt ci took {took}, wrong bodies {took}, the tests of the tools {took}, and all of it {took}"
+        parts = f"rt ci with wrong bodies beside it took {took}, the other wrong bodies {took}"
+        parts += f", the tests of the tools {took}, and all of it {took}"
         self.assertRegex(lines[-2], f"^gate: {parts}, by [0-9]+ checks at a time$")
         self.assertEqual(lines[-1], "44 passed, 0 failed")
         self.assertNotIn("40 passed, 0 failed", lines)
@@ -157,7 +183,6 @@ class Gate(Case):
 
     def test_rt_runs_on_the_tree(self) -> None:
         self.together = False
-        self.write("crates/sudo_audit/must-fail/01.one.f.x.edit", "")
         os.unlink(self.path("dev/wrong-bodies"))
         self.rt(f"{self.build()}ls crates/sudo_audit; echo 3 passed, 0 failed\n")
         lines = self.gate(0)
@@ -206,8 +231,56 @@ class Gate(Case):
     def test_wrong_bodies_behind_a_failure(self) -> None:
         self.rt(f"{self.build()}echo 3 passed, 1 failed; exit 1\n")
         lines = self.gate(1)
-        self.assertEqual(lines[0], "gate: no wrong body is tried, since rt ci failed")
+        self.assertEqual(lines[0], "gate: wrong bodies are not counted, since rt ci failed")
         self.assertEqual(lines[-1], "5 passed, 1 failed")
+
+    def test_wrong_bodies_beside_rt(self) -> None:
+        self.write("crates/sudo_review/must-fail/01.one.f.x.edit", "")
+        self.write("crates/low/must-fail/01.one.f.x.edit", "")
+        self.bodies(f'shift 6; echo "$@" >>{self.path("tried")}; echo 1 refused, 0 not')
+        os.mkdir(self.path(".git"))
+        gate = loaded("gate")
+        with chosen(self.folder, RT_JOBS="3"), mock.patch.object(os, "getloadavg", return_value=(0.0, 0.0, 0.0)):
+            gate.checks_that_fit = lambda: 9
+            trier = gate.Trier(".")
+            trier.thread.start()
+            self.wait_for("--jobs 2 low\n")
+            trier.look_at(b"rt: low: its tests are proved\n")
+            trier.look_at(b"rt: low proved\n")
+            trier.look_at(b"rt: middle proved\n")
+            self.wait_for("--jobs 2 low\n--jobs 2 sudo_audit\n--jobs 2 sudo_review\n")
+            self.assertEqual(trier.finish(), (3, 0))
+
+    def test_wrong_bodies_behind_rt(self) -> None:
+        self.write("crates/sudo_review/must-fail/01.one.f.x.edit", "")
+        self.bodies(f'shift 6; echo "$@" >>{self.path("tried")}; echo 1 refused, 0 not')
+        os.mkdir(self.path(".git"))
+        gate = loaded("gate")
+        with chosen(self.folder, RT_JOBS="3"), mock.patch.object(os, "getloadavg", return_value=(99.0, 0.0, 0.0)):
+            trier = gate.Trier(".")
+            trier.thread.start()
+            trier.look_at(b"rt: low proved\n")
+            trier.look_at(b"rt: middle proved\n")
+            self.assertEqual(trier.finish(), (1, 0))
+        self.assertEqual(self.read("tried"), "--jobs 3 sudo_audit sudo_review\n")
+
+    def wait_for(self, text: str) -> None:
+        """Waits until this was tried."""
+        started = time.monotonic()
+        while not (os.path.exists(self.path("tried")) and self.read("tried") == text) and time.monotonic() < started + 30:
+            time.sleep(0.05)
+        self.assertEqual(self.read("tried"), text)
+
+    def test_to_stop_the_gate_stops_wrong_bodies(self) -> None:
+        self.rt(f"{self.build()}echo 3 passed, 0 failed\n")
+        self.bodies(f"echo $$ >{self.path('pid')}; echo; echo; exec sleep 60")
+        with self.start() as child:
+            self.addCleanup(child.kill)
+            while not os.path.exists(self.path("pid")) or not self.read("pid"):
+                time.sleep(0.05)
+            child.terminate()
+            child.communicate()
+        self.assertFalse(os.path.exists(f"/proc/{self.read('pid').strip()}"))
 
     def test_checks_at_once(self) -> None:
         self.rt(f'{self.build()}echo "$RT_JOBS"; echo 3 passed, 0 failed\n')
