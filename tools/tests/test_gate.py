@@ -247,7 +247,7 @@ class Gate(Case):
             self.wait_for("--jobs 2 low\n")
             trier.look_at(b"rt: low: its tests are proved\n")
             trier.look_at(b"rt: low proved\n")
-            trier.look_at(b"rt: middle proved\n")
+            trier.look_at(b"rt: middle is kept: an earlier run proved the same files\n")
             self.wait_for("--jobs 2 low\n--jobs 2 sudo_audit\n--jobs 2 sudo_review\n")
             self.assertEqual(trier.finish(), (3, 0))
 
