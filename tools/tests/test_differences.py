@@ -8,7 +8,6 @@ import csv
 import io
 import os
 import re
-import subprocess
 import unittest
 from collections import Counter
 from typing import NamedTuple
@@ -18,14 +17,15 @@ import test_grants
 from drawn import Drawn
 from kulavemia.answers import Verdict
 from kulavemia.compare import CHANGE_HEADER, kind_of
-from support import PROGRAM, REQUESTS_HEADER, REVIEW, needs_program, needs_review
+from support import PROGRAM, REQUESTS_HEADER, needs_program, needs_review
 
 POLICIES = int(os.environ.get("POLICIES", "30"))
 FIRST = int(os.environ.get("FIRST", "0"))
 PROBES = int(os.environ.get("PROBES", "12"))
-HEADER = "users,hosts,runas_user,runas_group,answer,command,arguments,old,old_place,old_tags,new,new_place,new_tags,depends"
-# The lines that count the cautions on the policies, where there are some.
-NOTICES = re.compile("".join(rf"(?:sudo_review: {name}: [1-9][0-9]* cautions \([a-z, -]+\)\n)?" for name in ("old", "new")))
+HEADER = (
+    *("users", "hosts", "runas_user", "runas_group", "answer", "command", "arguments"),
+    *("old", "old_place", "old_tags", "new", "new_place", "new_tags", "depends"),
+)
 
 
 class Cell(NamedTuple):
@@ -184,14 +184,8 @@ class Comparisons(Drawn):
     """Comparisons of policies drawn at random with the same ones after one edit."""
 
     def compared(self, old: str, new: str, *words: str) -> list[Row]:
-        """Returns the rows of a comparison of two policies. Fails where its status or its notices are none of a comparison."""
-        self.write("old", old)
-        self.write("new", new)
-        line = [REVIEW, "compare", "old", "new", "--users", "users", "--hosts", "hosts", *words]
-        done = subprocess.run(line, cwd=self.folder, capture_output=True, check=False, timeout=60)
-        self.assertEqual(NOTICES.sub("", os.fsdecode(done.stderr), count=1), "")
-        header, *rows = csv.reader(io.StringIO(os.fsdecode(done.stdout), newline=""))
-        self.assertEqual((",".join(header), done.returncode), (HEADER, 5 if rows else 0))
+        """Returns the rows of a comparison of two policies."""
+        rows = self.comparison(old, new, HEADER, *words)
         return [Row(cells_of(*row[:4]), row[4], row[5], row[6], Said(*row[7:10]), Said(*row[10:13])) for row in rows]
 
     def said(self, policy: str, name: str, requests: list[Request]) -> list[Said]:
@@ -255,20 +249,9 @@ class Comparisons(Drawn):
                     for number, (request, was, now) in enumerate(zip(requests, before, after), 1)
                     if (kind := kind_of(Verdict(*was), Verdict(*now)))
                 ]
-                self.assertEqual(self.changed(old, new), wanted)
+                self.assertEqual(self.comparison(old, new, CHANGE_HEADER, "--requests", "s=requests"), wanted)
                 seen.update(row[0] for row in wanted)
         self.assertLessEqual({"gained", "lost", "other"}, set(seen))
-
-    def changed(self, old: str, new: str) -> list[list[str]]:
-        """Returns the rows of a comparison of two policies by the requests of the last audit."""
-        self.write("old", old)
-        self.write("new", new)
-        line = [REVIEW, "compare", "old", "new", "--users", "users", "--hosts", "hosts", "--requests", "s=requests"]
-        done = subprocess.run(line, cwd=self.folder, capture_output=True, check=False, timeout=60)
-        self.assertEqual(NOTICES.sub("", os.fsdecode(done.stderr), count=1), "")
-        header, *rows = csv.reader(io.StringIO(os.fsdecode(done.stdout), newline=""))
-        self.assertEqual((tuple(header), done.returncode), (CHANGE_HEADER, 5 if rows else 0))
-        return rows
 
     def found(self, rows: list[Row], user: str, host: str) -> set[tuple[Cell, Row]]:
         """Returns what rows find in the cells of a user on a host."""

@@ -104,13 +104,13 @@ class Gate(Case):
         """Writes the stub of `rt`, which has to be called as `rt ci`."""
         self.runnable("bin/rt", f'#!/bin/sh\n[ "$*" = ci ] || exit 9\n{text}')
 
-    together = True
+    by_rt = False
 
     def start(self, **more: str) -> subprocess.Popen[str]:
         """Starts the gate on the test's folder, with more variables of its environment."""
         environment = {name: value for name, value in os.environ.items() if name not in ("SUDO_AUDIT", "SUDO_REVIEW", "RT_JOBS")}
         environment |= {"PATH": f"{self.path('bin')}:/usr/bin:/bin", **more}
-        words = [os.path.join(DEV, "gate"), "--repository", self.folder, *(["--together"] if self.together else [])]
+        words = [os.path.join(DEV, "gate"), "--repository", self.folder, *(["--by-rt"] if self.by_rt else [])]
         return subprocess.Popen(
             words, env=environment, text=True, stdout=subprocess.PIPE, stderr=subprocess.STDOUT
         )
@@ -182,7 +182,7 @@ class Gate(Case):
         self.assertEqual(lines[-1], "5 passed, 1 failed")
 
     def test_rt_runs_on_the_tree(self) -> None:
-        self.together = False
+        self.by_rt = True
         os.unlink(self.path("dev/wrong-bodies"))
         self.rt(f"{self.build()}ls crates/sudo_audit; echo 3 passed, 0 failed\n")
         lines = self.gate(0)

@@ -11,15 +11,14 @@ import itertools
 import os
 import random
 import re
-import subprocess
 import unittest
 from collections import Counter
 from collections.abc import Iterator, Mapping, Sequence
 from typing import NamedTuple
 
-from drawn import Drawn
-from support import PROGRAM, REQUESTS_HEADER, REVIEW, needs_program, needs_review
-from test_differences import HEADER, NOTICES, Said, change
+from drawn import NotedCase
+from support import PROGRAM, REQUESTS_HEADER, needs_program, needs_review
+from test_differences import HEADER, Said, change
 
 POLICIES = int(os.environ.get("POLICIES", "40"))
 FIRST = int(os.environ.get("FIRST", "0"))
@@ -191,24 +190,12 @@ def written(rules: Sequence[Rule]) -> str:
 
 @needs_program
 @needs_review
-class Noted(Drawn):
+class Noted(NotedCase):
     """Comparisons of policies with notes, drawn at random, with the same ones after one edit."""
 
-    def setUp(self) -> None:
-        super().setUp()
-        self.write("users", "user,uid,groups\nroot,0,staff:50\nann,1001,staff:50\nbob,1002,staff:50\n")
-        self.write("hosts", "host,interfaces\nweb1,\n")
-
     def compared(self, old: str, new: str) -> list[Row]:
-        """Returns the rows of a comparison of two policies. Fails where its status or its notices are none of a comparison."""
-        self.write("old", old)
-        self.write("new", new)
-        line = [REVIEW, "compare", "old", "new", "--users", "users", "--hosts", "hosts"]
-        done = subprocess.run(line, cwd=self.folder, capture_output=True, check=False, timeout=60)
-        self.assertEqual(NOTICES.sub("", os.fsdecode(done.stderr), count=1), "")
-        header, *rows = csv.reader(io.StringIO(os.fsdecode(done.stdout), newline=""))
-        self.assertEqual((",".join(header), done.returncode), (HEADER, 5 if rows else 0))
-        return [self.row(*row) for row in rows]
+        """Returns the rows of a comparison of two policies."""
+        return [self.row(*row) for row in self.comparison(old, new, HEADER)]
 
     def row(self, users: str, hosts: str, targets: str, groups: str, *row: str) -> Row:
         """Returns a row by its fields. Fails where it is not about the host."""

@@ -10,17 +10,16 @@ import io
 import itertools
 import os
 import re
-import subprocess
 import unittest
 from collections import Counter
 from collections.abc import Iterator, Mapping, Sequence
 from typing import NamedTuple
 
-from drawn import Drawn
+from drawn import NotedCase
 from kulavemia.answers import Verdict
 from kulavemia.compare import CHANGE_HEADER, MAY, kind_of
-from support import PROGRAM, REQUESTS_HEADER, REVIEW, needs_program, needs_review
-from test_differences import NOTICES, Said, paired
+from support import PROGRAM, REQUESTS_HEADER, needs_program, needs_review
+from test_differences import Said, paired
 from test_noted_differences import GROUPS, OWN, PROBES, TARGETS, USERS, Draw, Rule, met_or_not, written
 
 POLICIES = int(os.environ.get("POLICIES", "20"))
@@ -56,25 +55,17 @@ def all_met(rules: Sequence[Rule]) -> Mapping[str, bool]:
 
 @needs_program
 @needs_review
-class NotedRequests(Drawn):
+class NotedRequests(NotedCase):
     """Requests under policies with notes, drawn at random, and under the same ones after one edit."""
 
     def setUp(self) -> None:
         super().setUp()
-        self.write("users", "user,uid,groups\nroot,0,staff:50\nann,1001,staff:50\nbob,1002,staff:50\n")
-        self.write("hosts", "host,interfaces\nweb1,\n")
         rows = "".join(f"{number},{','.join(asked)}\n" for number, asked in enumerate(ASKED, 1))
         self.write("requests", f"{REQUESTS_HEADER}{rows}close,{len(ASKED)},,,,,\n")
 
     def changed(self, old: str, new: str, is_noted: bool) -> dict[int, Row]:
-        """Returns the rows of a comparison, by the numbers of their requests. Fails if the command does not print a table."""
-        self.write("old", old)
-        self.write("new", new)
-        line = [REVIEW, "compare", "old", "new", "--users", "users", "--hosts", "hosts", "--requests", "s=requests"]
-        done = subprocess.run(line, cwd=self.folder, capture_output=True, check=False, timeout=60)
-        self.assertEqual(NOTICES.sub("", os.fsdecode(done.stderr), count=1), "")
-        header, *rows = csv.reader(io.StringIO(os.fsdecode(done.stdout), newline=""))
-        self.assertEqual((tuple(header), done.returncode), (NOTED_HEADER if is_noted else CHANGE_HEADER, 5 if rows else 0))
+        """Returns the rows of a comparison, by the numbers of their requests."""
+        rows = self.comparison(old, new, NOTED_HEADER if is_noted else CHANGE_HEADER, "--requests", "s=requests")
         numbers = [int(row[2]) for row in rows]
         self.assertEqual(numbers, sorted(set(numbers)))
         return {number: self.row(number, row, is_noted) for number, row in zip(numbers, rows)}
