@@ -30,7 +30,8 @@ use Rattle.review_roots.specs.Asked.{better, nothing}
 use Rattle.review_roots.specs.Blocks.{block_rows, is_for, standing_rows, with_rows}
 use Rattle.review_roots.specs.Body.Deciding.{alone_by, asked_by, towards_by}
 use Rattle.review_roots.specs.Body.Kept.{IsAlike}
-use Rattle.review_roots.specs.Body.Unnamed.{AreIds, IsAbsent, fits_by_name, is_unnamed, lists_group, runas_groups}
+use Rattle.review_roots.specs.Body.Unnamed.{AreGroupIds, AreIds, IsAbsent, block_groups, fits_by_name, is_unnamed, lists_group}
+use Rattle.review_roots.specs.Body.Unnamed.{runas_groups}
 use Rattle.review_roots.specs.Body.Unnamed.{runas_list, runas_users}
 use Rattle.review_roots.specs.KnownGroups.{list_names, names_group}
 use Rattle.review_roots.specs.States.{with_added}
@@ -96,10 +97,12 @@ module _ (p : Policy) (x : Block) (g : Group) (absent : IsAbsent p g x.users.now
       added-value kind.Runas p users u g (ap (λ o. list_names g (runas_list p o)) (sym has)
       ∙ ap (λ o. list_names g (runas_users p o)) (sym is) ∙ apart.1)
 
-  pub absent-groups : (r : Runas) (members : List Member) → option_copied x.runas ≡ Some r → r.groups ≡ Some members
-      → lists_group g (written_form kind.Runas p members) ≡ false
-  absent-groups r members is has =
-      ap (λ o. lists_group g (runas_list p o)) (sym has) ∙ ap (λ o. lists_group g (runas_groups p o)) (sym is) ∙ absent.1
+-- nor does its list of groups
+absent-groups :
+    (p : Policy) (x : Block) (g : Group) → lists_group g (block_groups p x) ≡ false → (r : Runas) (members : List Member) →
+    option_copied x.runas ≡ Some r → r.groups ≡ Some members → lists_group g (written_form kind.Runas p members) ≡ false
+absent-groups p x g absent r members is has =
+    ap (λ o. lists_group g (runas_list p o)) (sym has) ∙ ap (λ o. lists_group g (runas_groups p o)) (sym is) ∙ absent
 
 -- ---- A user with an added group
 
@@ -141,8 +144,9 @@ IsWithin groups o = (g : Group) → o ≡ Some g → Contains groups g
 -- groups that are alike to that one; and the user with the one has the first that is asked for if and only if the user with the
 -- other has the second
 module _
-    (p : Policy) (d : KnownRows) (bs : List Block) (m : Machine) (groups : List Group) (ids : List ℕ) (unnamed : AreIds p bs groups ids)
-    (u v : Person) (a a' b b' : Option Group) (from : IsAlike ids u a a') (to : IsAlike ids v b b')
+    (p : Policy) (d : KnownRows) (bs : List Block) (m : Machine) (groups : List Group) (ids goals : List ℕ)
+    (unnamed : AreIds p bs groups ids) (far : AreGroupIds p bs groups goals) (u v : Person) (a a' b b' : Option Group)
+    (from : IsAlike ids u a a') (to : IsAlike goals v b b')
     (of_a : IsWithin groups a) (of_a' : IsWithin groups a') (of_b : IsWithin groups b) (of_b' : IsWithin groups b')
     (own : is_same_user v u ≡ true → has_asked (with_added u a) b ≡ has_asked (with_added u a') b')
   where
@@ -187,24 +191,22 @@ module _
         → r.groups ≡ Some members → (g h : Group) → b ≡ Some g → b' ≡ Some h → group_value p members g ≡ group_value p members h
     value-same x inside r members is has g h is_g is_h = go to
       where
-        go : IsAlike ids v b b' → group_value p members g ≡ group_value p members h
+        go : IsAlike goals v b b' → group_value p members g ≡ group_value p members h
         go (inl e) = let same : g ≡ h = cc in ap (group_value p members) same
         go (inr two) =
             let first : two.one ≡ g = let k : Some two.one ≡ Some g = sym two.is_one ∙ is_g in cc in
             let second : two.other ≡ h = let k : Some two.other ≡ Some h = sym two.is_other ∙ is_h in cc in
             ap (group_value p members) (sym first)
             ∙ group-value-same p members two.one two.other
-            (absent-groups p x two.one (is-absent x inside two.one (of_b two.one two.is_one) two.one_unnamed)
-            r members is has)
-            (absent-groups p x two.other
-            (is-absent x inside two.other (of_b' two.other two.is_other) two.other_unnamed) r members is has)
+            (absent-groups p x two.one (far two.one (of_b two.one two.is_one) two.one_unnamed x inside) r members is has)
+            (absent-groups p x two.other (far two.other (of_b' two.other two.is_other) two.other_unnamed x inside) r members is has)
             ∙ ap (group_value p members) second
 
     some-same : is_some b ≡ is_some b'
-    some-same = is-some-same v ids b b' to
+    some-same = is-some-same v goals b b' to
 
     has-same : has_asked v b ≡ has_asked v b'
-    has-same = asked-same v ids b b' to
+    has-same = asked-same v goals b b' to
 
     user-same : is_same_user v one ≡ is_same_user v other
     user-same = ap (bytes_eq v.name) (name-kept u a ∙ sym (name-kept u a'))

@@ -1,25 +1,27 @@
 -- What is given has each level from the least one on if and only if what the deciding blocks give has it.
 use Rattle.std.proofs.Common.{◌≡◌, ◌<◌, ◌≤◌, ◌∙◌, ◌==◌, Bool, true, false, not, cond, ◌&&◌, ◌||◌, List, [], ◌∷◌, ap, arith, flat_map}
-use Rattle.std.proofs.Common.{refl, subst, sym, inl, inr, ◌⊎◌, Option, Some, None}
-use Rattle.std.specs.Prelude.{is_some, nat_lt}
+use Rattle.std.proofs.Common.{drop, option_copied, refl, subst, suc, sym, take, zero, inl, inr, ◌⊎◌, ℕ, Option, Some, None}
+use Rattle.std.specs.Prelude.{All, bytes_eq, is_some, nat_lt}
 use Rattle.std.specs.List.{list_all}
 use Rattle.std.proofs.lemmas.Bool.{and_parts, le-ltb, leb-true, lt-ltb, ne_eqb}
 use Rattle.std.proofs.lemmas.Grind.{fold-append}
+use Rattle.std.proofs.lemmas.List.Elements.{All-weaker}
 use Rattle.sudo_grammar.specs.declared.policy.Policy.{Policy}
 use Rattle.sudo_match.specs.declared.people.Group.{Group}
 use Rattle.sudo_match.specs.declared.people.Machine.{Machine}
 use Rattle.sudo_match.specs.declared.people.Person.{Person}
 use Rattle.sudo_match.specs.KnownRows.{KnownRows}
 use Rattle.sudo_verdict.specs.Questions.{Question, question_as}
-use Rattle.sudo_verdict.specs.RunasForms.{is_same_user}
+use Rattle.sudo_verdict.specs.RunasForms.{is_same_user, runas_allows}
 use Rattle.review_roots.specs.declared.block.Block.{Block}
 use Rattle.review_roots.specs.declared.given.Counted.{Counted}
 use Rattle.review_roots.specs.declared.given.Given.{Given}
 use Rattle.review_roots.specs.declared.level.Level.{Level}
 use Rattle.review_roots.specs.declared.level.Level.TheVariants as level
 use Rattle.review_roots.specs.Asked.{better, given_alone, given_asked, given_towards, is_better, is_easier, nothing}
-use Rattle.review_roots.specs.Blocks.{AreBlocks, block_rows, stands, standing_rows, with_row, with_rows}
-use Rattle.review_roots.specs.Body.Deciding.{alone_by, asked_by, deciding, from_raising, is_settled, towards_by}
+use Rattle.review_roots.specs.Blocks.{AreBlocks, block_rows, is_for, stands, standing_rows, with_row, with_rows}
+use Rattle.review_roots.specs.Body.Deciding.{IsCut, IsPassed, alone_by, asked_by, deciding, deciding_for, from_raising}
+use Rattle.review_roots.specs.Body.Deciding.{is_called, is_settled, towards_by}
 use Rattle.review_roots.specs.Body.Raising.{block_raises}
 use Rattle.review_roots.specs.Body.Settled.{settles}
 use Rattle.review_roots.specs.Ranks.{is_at_least, rank}
@@ -129,6 +131,37 @@ module _ (p : Policy) (least : Level) (listed : is_at_least level.Listed least �
       go true is = even-behind bs nothing is (weak-nothing least listed)
       go false is = inl refl
 
+  -- a block that raises and does not stand changes nothing
+  skip-block : (b : Block) (a : Given) → (block_raises least b ≡ true → stands p q b ≡ false) → IsWeak least a
+      → IsWeak least (with-block a b)
+  skip-block b a out weak = go (block_raises least b) refl
+    where
+      go : (r : Bool) → block_raises least b ≡ r → IsWeak least (with-block a b)
+      go false is = weak-block b a is weak
+      go true is = subst (λ c. IsWeak least (with_rows a (cond c (block_rows b) []))) (sym (out is)) weak
+
+  even-drop :
+      (bs : List Block) (n : ℕ) (a : Given) → list_all (is_settled least) bs ≡ true →
+      All (λ b. block_raises least b ≡ true → stands p q b ≡ false) (take n bs) → IsWeak least a →
+      AreEven least (with-blocks a bs) (with-blocks nothing (drop n bs))
+  even-drop bs zero a all front weak = even-blocks bs a nothing all (inr (weak, weak-nothing least listed))
+  even-drop [] (suc n) a all front weak = inr (weak, weak-nothing least listed)
+  even-drop (b ∷ bs) (suc n) a all front weak =
+      subst (λ x. AreEven least x (with-blocks nothing (drop n bs))) (sym (one-more a b bs))
+      (even-drop bs n (with-block a b) (and_parts (is_settled least b) (list_all (is_settled least) bs) all).1
+      (λ i d less. front (suc i) d (omega (arith, less))) (skip-block b a (front zero b (omega arith)) weak))
+
+  -- nor do those in front of where the blocks begin that decide for users of other names
+  even-cut : (name : Option (List ℕ)) (bs : List Block) (start : ℕ) → IsCut least name bs start → is_called name q.user ≡ false
+      → AreEven least (with-blocks nothing bs) (with-blocks nothing (drop start bs))
+  even-cut name bs zero cut other = inl refl
+  even-cut name bs (suc n) cut other =
+      even-drop bs (suc n) nothing (cut.settled (omega arith))
+      (All-weaker (IsPassed least name) (λ b. block_raises least b ≡ true → stands p q b ≡ false)
+      (λ b passed raises. ap (λ c. c && (is_for p q.host b && runas_allows p q (option_copied b.runas))) (passed raises p q.user other))
+      (take (suc n) bs) cut.front)
+      (weak-nothing least listed)
+
 -- ---- The better of two
 
 module _ (least : Level) where
@@ -180,36 +213,56 @@ module _ (least : Level) where
 
 -- ---- On the way to another user
 
-module _ (p : Policy) (d : KnownRows) (bs : List Block) (m : Machine) (least : Level) (tied : AreBlocks p bs)
-    (listed : is_at_least level.Listed least ≡ true) where
-  asked-level : (u : Person) (t : Option Person) (g : Option Group)
-      → AreLevel least (given_asked p d u m t g) (asked_by p d (deciding least bs) u m t g)
-  asked-level u t g =
-      subst (λ a. AreLevel least a (asked_by p d (deciding least bs) u m t g)) (blocks_give p (question_as d u m t g) bs tied)
-      (even-level least (asked_by p d bs u m t g) (asked_by p d (deciding least bs) u m t g)
-      (even-deciding p least listed (question_as d u m t g) bs))
+-- some blocks that give a user the same as all, or neither has the least level
+module _ (p : Policy) (d : KnownRows) (bs ds : List Block) (m : Machine) (least : Level) (tied : AreBlocks p bs)
+    (listed : is_at_least level.Listed least ≡ true) (u : Person)
+    (even : (t : Option Person) (g : Option Group) → AreEven least (asked_by p d bs u m t g) (asked_by p d ds u m t g)) where
+  asked-level : (t : Option Person) (g : Option Group) → AreLevel least (given_asked p d u m t g) (asked_by p d ds u m t g)
+  asked-level t g =
+      subst (λ a. AreLevel least a (asked_by p d ds u m t g)) (blocks_give p (question_as d u m t g) bs tied)
+      (even-level least (asked_by p d bs u m t g) (asked_by p d ds u m t g) (even t g))
 
-  alone-level : (u v : Person) (g : Option Group) → AreLevel least (given_alone p d m u v g) (alone_by p d (deciding least bs) m u v g)
-  alone-level u v g = go (is_same_user v u && is_some g)
+  alone-level : (v : Person) (g : Option Group) → AreLevel least (given_alone p d m u v g) (alone_by p d ds m u v g)
+  alone-level v g = go (is_same_user v u && is_some g)
     where
       go : (c : Bool) → AreLevel least (cond c (given_asked p d u m None g) nothing)
-          (cond c (asked_by p d (deciding least bs) u m None g) nothing)
-      go true = asked-level u None g
+          (cond c (asked_by p d ds u m None g) nothing)
+      go true = asked-level None g
       go false = inl refl
 
-  towards-level : (u v : Person) (g : Option Group)
-      → AreLevel least (given_towards p d m u v g) (towards_by p d (deciding least bs) m u v g)
-  towards-level u v g =
-      level-better least (given_asked p d u m (Some v) g) (asked_by p d (deciding least bs) u m (Some v) g)
-      (given_alone p d m u v g) (alone_by p d (deciding least bs) m u v g) (asked-level u (Some v) g) (alone-level u v g)
+  towards-level : (v : Person) (g : Option Group) → AreLevel least (given_towards p d m u v g) (towards_by p d ds m u v g)
+  towards-level v g =
+      level-better least (given_asked p d u m (Some v) g) (asked_by p d ds u m (Some v) g)
+      (given_alone p d m u v g) (alone_by p d ds m u v g) (asked-level (Some v) g) (alone-level v g)
 
-  -- what is given has a level from the least one on if what these blocks give has it
-  pub decided :
-      (u v : Person) (g : Option Group) (k : Counted) (l : Level) → is_at_least least l ≡ true →
-      is_at_least l (level_for k (given_towards p d m u v g)) ≡ is_at_least l (level_for k (towards_by p d (deciding least bs) m u v g))
-  decided u v g k l above =
-      go (given_towards p d m u v g) (towards_by p d (deciding least bs) m u v g) (towards-level u v g)
+  decided :
+      (v : Person) (g : Option Group) (k : Counted) (l : Level) → is_at_least least l ≡ true →
+      is_at_least l (level_for k (given_towards p d m u v g)) ≡ is_at_least l (level_for k (towards_by p d ds m u v g))
+  decided v g k l above = go (given_towards p d m u v g) (towards_by p d ds m u v g) (towards-level v g)
     where
       go : (a c : Given) → AreLevel least a c → is_at_least l (level_for k a) ≡ is_at_least l (level_for k c)
       go a c (inl e) = ap (λ (x : Given). is_at_least l (level_for k x)) e
       go a c (inr low) = low-level least a listed low.0 k l above ∙ sym (low-level least c listed low.1 k l above)
+
+called-same : (name : Option (List ℕ)) (u w : Person) → u.name ≡ w.name → is_called name u ≡ is_called name w
+called-same None u w same = refl
+called-same (Some n) u w same = ap (bytes_eq n) same
+
+-- what is given has a level from the least one on if what the blocks give have it that decide for a user of the name
+pub decided-for :
+    (p : Policy) (d : KnownRows) (bs : List Block) (m : Machine) (least : Level) → AreBlocks p bs → is_at_least level.Listed least ≡ true →
+    (name : Option (List ℕ)) (start : ℕ) → IsCut least name bs start → (w u : Person) → u.name ≡ w.name →
+    (v : Person) (g : Option Group) (k : Counted) (l : Level) → is_at_least least l ≡ true →
+    is_at_least l (level_for k (given_towards p d m u v g))
+    ≡ is_at_least l (level_for k (towards_by p d (deciding_for least name start bs w) m u v g))
+decided-for p d bs m least tied listed name start cut w u same v g k l above = go (is_called name w) refl
+  where
+    go : (c : Bool) → is_called name w ≡ c
+        → is_at_least l (level_for k (given_towards p d m u v g))
+        ≡ is_at_least l (level_for k (towards_by p d (cond c (deciding least bs) (drop start bs)) m u v g))
+    go true is =
+        decided p d bs (deciding least bs) m least tied listed u (λ t g. even-deciding p least listed (question_as d u m t g) bs)
+        v g k l above
+    go false is =
+        decided p d bs (drop start bs) m least tied listed u
+        (λ t g. even-cut p least listed (question_as d u m t g) name bs start cut (called-same name u w same ∙ is)) v g k l above

@@ -18,7 +18,6 @@ use Rattle.review_roots.specs.declared.search.Found.{Found}
 use Rattle.review_roots.specs.declared.search.Sought.{Sought}
 use Rattle.review_roots.specs.declared.state.State.{State}
 use Rattle.review_roots.specs.Body.Found.{AreFound, AreOrdered, IsFound, IsLinked, IsStep, found_states}
-use Rattle.review_roots.specs.Body.Deciding.{deciding}
 use Rattle.review_roots.specs.Body.Kept.{AreAlike, AreKept}
 use Rattle.review_roots.specs.Body.Passing.{IsAlong}
 use Rattle.review_roots.specs.Chains.{Steps, Path, here, more, HasNoPath, LeadsAlong}
@@ -26,7 +25,7 @@ use Rattle.review_roots.specs.Order.{is_behind, state_cmp}
 use Rattle.review_roots.specs.Ranks.{is_at_least}
 use Rattle.review_roots.specs.Sought.{steps_of}
 use Rattle.review_roots.proofs.ChainLemmas.{chains-are-paths}
-use Rattle.review_roots.proofs.KeptLemmas.{host-keeps, state-parts, there}
+use Rattle.review_roots.proofs.KeptLemmas.{blocks_for, host-keeps, state-parts, there}
 use Rattle.review_roots.proofs.OrderLemmas.{behind-itself, behind-trans, states-same}
 use Rattle.review_roots.proofs.PathLemmas.{AreSame, HasWithin, alike-turn, itself, kept-path, plain-path, step-same}
 use Rattle.review_roots.proofs.SearchLemmas.{at-contains, contains-at, from-map}
@@ -71,7 +70,7 @@ module _ (h : HostSteps) (q : Sought) (l : Level) (above : is_at_least h.least l
   abbrev d : KnownRows
   d = h.directory.now
 
-  keeps : AreKept h.checked.now (deciding h.least h.blocks.now) h.directory.now h.groups.now h.states.now
+  keeps : AreKept h.checked.now (blocks_for h) h.directory.now h.groups.now h.states.now
   keeps = host-keeps h
 
   right-at : (i : ℕ) (f : Found) → slice_get found i ≡ Some f → IsFound g l f

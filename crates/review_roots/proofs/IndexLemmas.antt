@@ -1,7 +1,7 @@
 -- Blocks by their indices: the rows of those that stand, and which of them pass a test.
 use Rattle.std.proofs.Common.{◌≡◌, ◌∙◌, ◌+◌, ℕ, zero, suc, Bool, true, false, cond, ◌&&◌, ◌||◌, List, [], ◌∷◌, ◌++◌}
 use Rattle.std.proofs.Common.{◌<◌, ap, append_assoc, get_or, take}
-use Rattle.std.proofs.Common.{arith, flat_map, length, length-append, map, refl, sym, Some}
+use Rattle.std.proofs.Common.{arith, flat_map, length, length-append, map, refl, sym, Option, Some, None}
 use Rattle.std.specs.Prelude.{filter, slice_get}
 use Rattle.std.specs.List.{list_all, list_any, slice_index_or}
 use Rattle.std.proofs.lemmas.Bool.{and_parts}
@@ -164,3 +164,13 @@ filtered-from r l all (b ∷ bs) before k is at = go (r b) (filtered-from r l al
 -- the indices of the blocks that pass a test, of those that pass another one
 pub indices-filtered : (r l : Block → Bool) (bs : List Block) → filter (passes_at l bs) (indices r bs) ≡ indices (λ b. r b && l b) bs
 indices-filtered r l bs = filtered-from r l bs bs [] 0 refl refl
+
+-- the rows of the block at an index stand or not by its answer
+pub part-same :
+    (t : ℕ → Block → Bool) (bs : List Block) (i : ℕ) (answer : Bool) → answer ≡ passes_at (t i) bs i →
+    part_at (λ i b. answer) bs i ≡ part_at t bs i
+part-same t bs i answer is = go (slice_get bs i) is
+  where
+    go : (o : Option Block) → answer ≡ passes (t i) o → part_of (λ b. answer) o ≡ part_of (t i) o
+    go None e = refl
+    go (Some b) e = ap (λ c. cond c (block_rows b) []) e

@@ -1,6 +1,6 @@
 -- The states that are kept stand for all: a chain from a state is one, through kept states, from each kept state that is alike.
 use Rattle.std.proofs.Common.{◌≡◌, ◌<◌, ◌≤◌, ◌+◌, ◌∙◌, ℕ, zero, suc, Bool, true, false, cond, not, List, [], ◌∷◌, ◌++◌, ap}
-use Rattle.std.proofs.Common.{append_assoc, arith, flat_map, length, refl, subst, sym, Option, Some, None, inl, inr, ◌⊎◌}
+use Rattle.std.proofs.Common.{append_assoc, arith, flat_map, length, refl, subst, sym, Option, Some, None, inl, inr, ◌⊎◌, option_copied}
 use Rattle.std.specs.Prelude.{find, filter, slice_get}
 use Rattle.std.specs.List.{Contains, range_with_len}
 use Rattle.std.specs.declared.cmp.Ordering.{Ordering}
@@ -17,16 +17,19 @@ use Rattle.sudo_match.specs.declared.people.Person.{Person}
 use Rattle.sudo_match.specs.KnownRows.{KnownRows}
 use Rattle.sudo_verdict.specs.RunasForms.{has_group}
 use Rattle.review_roots.specs.declared.block.Block.{Block}
+use Rattle.review_roots.specs.declared.cut.Cut.{Cut}
 use Rattle.review_roots.specs.declared.host.HostSteps.{HostSteps}
 use Rattle.review_roots.specs.declared.state.State.{State}
+use Rattle.review_roots.specs.declared.unnamed.SplitGroups.{SplitGroups}
 use Rattle.review_roots.specs.Body.Candidates.{has_state}
-use Rattle.review_roots.specs.Body.Deciding.{deciding}
-use Rattle.review_roots.specs.Body.Kept.{AreAlike, AreKept, has_at, has_if, if_any, kept_at, kept_by, kept_groups}
-use Rattle.review_roots.specs.Body.Kept.{kept_if, kept_states, states_by}
-use Rattle.review_roots.specs.Body.Unnamed.{AreIds, is_unnamed, named_indices, unnamed_at, unnamed_if, unnamed_indices}
+use Rattle.review_roots.specs.Body.Deciding.{deciding_for, is_called}
+use Rattle.review_roots.specs.Body.Kept.{AreAlike, AreKept, AreUnnamed, IsAlike, has_at, has_if, if_any, kept_at, kept_by, kept_groups}
+use Rattle.review_roots.specs.Body.Kept.{ids_by, kept_if, kept_states, named_for, states_by, unnamed_for}
+use Rattle.review_roots.specs.Body.Unnamed.{is_unnamed, named_indices, unnamed_at, unnamed_if, unnamed_indices}
 use Rattle.review_roots.specs.Order.{state_cmp}
 use Rattle.review_roots.specs.States.{all_states, state_with, states_with}
 use Rattle.review_roots.proofs.CandidateLemmas.{has-in, in-has}
+use Rattle.review_roots.proofs.CutLemmas.{cut-unnamed}
 use Rattle.review_roots.proofs.ListSteps.{flat-range}
 use Rattle.review_roots.proofs.MemberLemmas.{all-of, find-none, find-there, from-append, from-filter, from-flat, in-range, to-flat}
 use Rattle.review_roots.proofs.OrderLemmas.{behind-itself, one-user}
@@ -113,18 +116,18 @@ find-least t s a (suc n) i j e low high keeps passes = go (s a) refl (find-least
 
 -- ---- Each state is alike to one that is kept
 
-module _ (d : KnownRows) (groups : List Group) (ids : List ℕ) where
+module _ (d : KnownRows) (groups : List Group) (ids : Person → List ℕ) where
   abbrev n : ℕ
   n = length d.people
 
   abbrev m : ℕ
   m = length groups
 
-  abbrev named : List ℕ
-  named = named_indices ids groups m
+  abbrev named : Person → List ℕ
+  named u = named_indices (ids u) groups m
 
-  abbrev others : List ℕ
-  others = unnamed_indices ids groups m
+  abbrev others : Person → List ℕ
+  others u = unnamed_indices (ids u) groups m
 
   abbrev kept : List State
   kept = kept_by d groups named others
@@ -134,42 +137,43 @@ module _ (d : KnownRows) (groups : List Group) (ids : List ℕ) where
       Contains-append_left (states_with n None) (flat_map (kept_at d groups named others) (range_with_len 0 n)) (state_with None user)
       (to-map (state_with None) (range_with_len 0 n) user (range-has n user less))
 
-  added-kept : (user i : ℕ) (u : Person) → user < n → slice_get d.people user ≡ Some u → Contains (kept_groups u groups named others) i
-      → Contains kept (state_with (Some i) user)
+  added-kept : (user i : ℕ) (u : Person) → user < n → slice_get d.people user ≡ Some u
+      → Contains (kept_groups u groups (named u) (others u)) i → Contains kept (state_with (Some i) user)
   added-kept user i u less is inside =
       Contains-append_right (states_with n None) (flat_map (kept_at d groups named others) (range_with_len 0 n)) (state_with (Some i) user)
       (to-flat (kept_at d groups named others) (range_with_len 0 n) user (state_with (Some i) user) (range-has n user less)
       (subst (λ o. Contains (kept_if groups named others user o) (state_with (Some i) user)) (sym is)
-      (to-map (λ i. state_with (Some i) user) (kept_groups u groups named others) i inside)))
+      (to-map (λ i. state_with (Some i) user) (kept_groups u groups (named u) (others u)) i inside)))
 
   -- an unnamed group of a user has one that is kept, and that the user has, or lacks, too
   module _ (user i : ℕ) (u : Person) (g : Group) (less : user < n) (is : slice_get d.people user ≡ Some u) (within : i < m)
-      (at : slice_get groups i ≡ Some g) (none : is_unnamed ids g ≡ true) where
-    unnamed-there : (j : ℕ) → Contains others j → (h : Group) × ((slice_get groups j ≡ Some h) × (is_unnamed ids h ≡ true))
+      (at : slice_get groups i ≡ Some g) (none : is_unnamed (ids u) g ≡ true) where
+    unnamed-there : (j : ℕ) → Contains (others u) j → (h : Group) × ((slice_get groups j ≡ Some h) × (is_unnamed (ids u) h ≡ true))
     unnamed-there j inside =
-        let k = from-filter (unnamed_at ids groups) (range_with_len 0 m) j inside in
+        let k = from-filter (unnamed_at (ids u) groups) (range_with_len 0 m) j inside in
         let h = there groups j (in-range m j k.0) in
-        (h.0, (h.1, sym (ap (unnamed_if ids) h.1) ∙ k.1))
+        (h.0, (h.1, sym (ap (unnamed_if (ids u)) h.1) ∙ k.1))
 
-    itself : Contains others i
-    itself = in-filter (unnamed_at ids groups) (range_with_len 0 m) i (range-has m i within) (ap (unnamed_if ids) at ∙ none)
+    itself : Contains (others u) i
+    itself = in-filter (unnamed_at (ids u) groups) (range_with_len 0 m) i (range-has m i within) (ap (unnamed_if (ids u)) at ∙ none)
 
-    stands : (j : ℕ) → Contains others j → has_at u groups j ≡ has_group u g → AreAlike d groups ids (state_with (Some i) user)
+    stands : (j : ℕ) → Contains (others u) j → has_at u groups j ≡ has_group u g → AreAlike d groups ids (state_with (Some i) user)
         (state_with (Some j) user)
     stands j inside same =
         let h = unnamed-there j inside in (
           refl,
           λ v is_v.
               let one : u ≡ v = let e : Some u ≡ Some v = sym is ∙ is_v in cc in
-              inr (record {
+              subst (λ w. IsAlike (ids w) w (slice_get groups i) (slice_get groups j)) one
+              (inr (record {
                 one = g;
                 other = h.0;
                 is_one = at;
                 is_other = h.1.0;
                 one_unnamed = none;
                 other_unnamed = h.1.1;
-                has = subst (λ w. has_group w g ≡ has_group w h.0) one (sym same ∙ ap (has_if u) h.1.0);
-              }),
+                has = sym same ∙ ap (has_if u) h.1.0;
+              })),
         )
 
     abbrev Stand : Type 0
@@ -177,50 +181,51 @@ module _ (d : KnownRows) (groups : List Group) (ids : List ℕ) where
         × (is_gt (state_cmp d t (state_with (Some i) user)) ≡ false)))
 
     -- the first of these groups does not stand behind the group
-    no-later : (t : ℕ → Bool) (j : ℕ) → find t others ≡ Some j → t i ≡ true
+    no-later : (t : ℕ → Bool) (j : ℕ) → find t (others u) ≡ Some j → t i ≡ true
         → is_gt (state_cmp d (state_with (Some j) user) (state_with (Some i) user)) ≡ false
     no-later t j e passes =
         one-user d (state_with (Some j) user) (state_with (Some i) user) refl
         (not-more j i
-        (find-least t (unnamed_at ids groups) 0 m i j e (omega arith) (omega (arith, within)) (ap (unnamed_if ids) at ∙ none) passes))
+        (find-least t (unnamed_at (ids u) groups) 0 m i j e (omega arith) (omega (arith, within))
+        (ap (unnamed_if (ids u)) at ∙ none) passes))
 
     had : has_group u g ≡ true → Stand
-    had has = go (find (has_at u groups) others) refl
+    had has = go (find (has_at u groups) (others u)) refl
       where
-        go : (o : Option ℕ) → find (has_at u groups) others ≡ o → Stand
+        go : (o : Option ℕ) → find (has_at u groups) (others u) ≡ o → Stand
         go None e =
-            let lacks = find-none (has_at u groups) others i e itself in
+            let lacks = find-none (has_at u groups) (others u) i e itself in
             absurd (let bad : true ≡ false = sym (ap (has_if u) at ∙ has) ∙ lacks in cc)
         go (Some j) e =
-            let k = find-there (has_at u groups) others j e in (
+            let k = find-there (has_at u groups) (others u) j e in (
               state_with (Some j) user,
               (
                 added-kept user j u less is
-                    (Contains-append_right named
-                    (if_any (find (has_at u groups) others) ++ if_any (find (λ i. not (has_at u groups i)) others)) j
-                    (Contains-append_left (if_any (find (has_at u groups) others))
-                    (if_any (find (λ i. not (has_at u groups i)) others)) j (of-if (find (has_at u groups) others) j e))),
+                    (Contains-append_right (named u)
+                    (if_any (find (has_at u groups) (others u)) ++ if_any (find (λ i. not (has_at u groups i)) (others u))) j
+                    (Contains-append_left (if_any (find (has_at u groups) (others u)))
+                    (if_any (find (λ i. not (has_at u groups i)) (others u))) j (of-if (find (has_at u groups) (others u)) j e))),
                 (stands j k.0 (k.1 ∙ sym has), no-later (has_at u groups) j e (ap (has_if u) at ∙ has)),
               ),
             )
 
     lacked : has_group u g ≡ false → Stand
-    lacked has = go (find (λ i. not (has_at u groups i)) others) refl
+    lacked has = go (find (λ i. not (has_at u groups i)) (others u)) refl
       where
-        go : (o : Option ℕ) → find (λ i. not (has_at u groups i)) others ≡ o → Stand
+        go : (o : Option ℕ) → find (λ i. not (has_at u groups i)) (others u) ≡ o → Stand
         go None e =
-            let passes = find-none (λ i. not (has_at u groups i)) others i e itself in
+            let passes = find-none (λ i. not (has_at u groups i)) (others u) i e itself in
             absurd (let bad : true ≡ false = sym (ap not (ap (has_if u) at ∙ has)) ∙ passes in cc)
         go (Some j) e =
-            let k = find-there (λ i. not (has_at u groups i)) others j e in (
+            let k = find-there (λ i. not (has_at u groups i)) (others u) j e in (
               state_with (Some j) user,
               (
                 added-kept user j u less is
-                    (Contains-append_right named
-                    (if_any (find (has_at u groups) others) ++ if_any (find (λ i. not (has_at u groups i)) others)) j
-                    (Contains-append_right (if_any (find (has_at u groups) others))
-                    (if_any (find (λ i. not (has_at u groups i)) others)) j
-                    (of-if (find (λ i. not (has_at u groups i)) others) j e))),
+                    (Contains-append_right (named u)
+                    (if_any (find (has_at u groups) (others u)) ++ if_any (find (λ i. not (has_at u groups i)) (others u))) j
+                    (Contains-append_right (if_any (find (has_at u groups) (others u)))
+                    (if_any (find (λ i. not (has_at u groups i)) (others u))) j
+                    (of-if (find (λ i. not (has_at u groups i)) (others u)) j e))),
                 (
                   stands j k.0 (not-true (has_at u groups j) k.1 ∙ sym has),
                   no-later (λ i. not (has_at u groups i)) j e (ap not (ap (has_if u) at ∙ has)),
@@ -239,12 +244,13 @@ module _ (d : KnownRows) (groups : List Group) (ids : List ℕ) where
   alike-itself s = (refl, λ u is. inl refl)
 
   named-kept : (user i : ℕ) (u : Person) (g : Group) → user < n → slice_get d.people user ≡ Some u → i < m → slice_get groups i ≡ Some g
-      → is_unnamed ids g ≡ false → Contains kept (state_with (Some i) user)
+      → is_unnamed (ids u) g ≡ false → Contains kept (state_with (Some i) user)
   named-kept user i u g less is within at some =
       added-kept user i u less is
-      (Contains-append_left named (if_any (find (has_at u groups) others) ++ if_any (find (λ i. not (has_at u groups i)) others)) i
-      (in-filter (λ i. not (unnamed_at ids groups i)) (range_with_len 0 m) i (range-has m i within)
-      (ap not (ap (unnamed_if ids) at ∙ some))))
+      (Contains-append_left (named u)
+      (if_any (find (has_at u groups) (others u)) ++ if_any (find (λ i. not (has_at u groups i)) (others u))) i
+      (in-filter (λ i. not (unnamed_at (ids u) groups i)) (range_with_len 0 m) i (range-has m i within)
+      (ap not (ap (unnamed_if (ids u)) at ∙ some))))
 
   abbrev Covers : State → State → Type 0
   Covers s t = Contains kept t × (AreAlike d groups ids s t × (is_gt (state_cmp d t s) ≡ false))
@@ -260,10 +266,10 @@ module _ (d : KnownRows) (groups : List Group) (ids : List ℕ) where
           let i = added.0 in
           let u = there d.people s.user less in
           let g = there groups i added.1.0 in
-          at i u.0 g.0 u.1 added.1.0 g.1 (state-is s (Some i) added.1.1) (is_unnamed ids g.0) refl
+          at i u.0 g.0 u.1 added.1.0 g.1 (state-is s (Some i) added.1.1) (is_unnamed (ids u.0) g.0) refl
         where
           at : (i : ℕ) (u : Person) (g : Group) → slice_get d.people s.user ≡ Some u → i < m → slice_get groups i ≡ Some g
-              → s ≡ state_with (Some i) s.user → (b : Bool) → is_unnamed ids g ≡ b → (t : State) × Covers s t
+              → s ≡ state_with (Some i) s.user → (b : Bool) → is_unnamed (ids u) g ≡ b → (t : State) × Covers s t
           at i u g is within at_i same true none =
               let t = unnamed-kept s.user i u g less is within at_i none in
               (t.0, subst (λ s. Covers s t.0) (sym same) t.1)
@@ -277,14 +283,14 @@ module _ (d : KnownRows) (groups : List Group) (ids : List ℕ) where
 
   -- ---- What is kept is among all
 
-  listed-inside : (u : Person) (i : ℕ) → Contains (kept_groups u groups named others) i → i < m
-  listed-inside u i inside = go (from-append named rest i inside)
+  listed-inside : (u : Person) (i : ℕ) → Contains (kept_groups u groups (named u) (others u)) i → i < m
+  listed-inside u i inside = go (from-append (named u) rest i inside)
     where
       first : Option ℕ
-      first = find (has_at u groups) others
+      first = find (has_at u groups) (others u)
 
       second : Option ℕ
-      second = find (λ i. not (has_at u groups i)) others
+      second = find (λ i. not (has_at u groups i)) (others u)
 
       rest : List ℕ
       rest = if_any first ++ if_any second
@@ -297,15 +303,15 @@ module _ (d : KnownRows) (groups : List Group) (ids : List ℕ) where
           at zero e = e
           at (suc j) e = cc
 
-      other : Contains others i → i < m
-      other h = in-range m i (from-filter (unnamed_at ids groups) (range_with_len 0 m) i h).0
+      other : Contains (others u) i → i < m
+      other h = in-range m i (from-filter (unnamed_at (ids u) groups) (range_with_len 0 m) i h).0
 
       behind : Contains (if_any first) i ⊎ Contains (if_any second) i → i < m
-      behind (inl h) = other (find-there (has_at u groups) others i (only first h)).0
-      behind (inr h) = other (find-there (λ i. not (has_at u groups i)) others i (only second h)).0
+      behind (inl h) = other (find-there (has_at u groups) (others u) i (only first h)).0
+      behind (inr h) = other (find-there (λ i. not (has_at u groups i)) (others u) i (only second h)).0
 
-      go : Contains named i ⊎ Contains rest i → i < m
-      go (inl h) = in-range m i (from-filter (λ i. not (unnamed_at ids groups i)) (range_with_len 0 m) i h).0
+      go : Contains (named u) i ⊎ Contains rest i → i < m
+      go (inl h) = in-range m i (from-filter (λ i. not (unnamed_at (ids u) groups i)) (range_with_len 0 m) i h).0
       go (inr h) = behind (from-append (if_any first) (if_any second) i h)
 
   kept-inside : (s : State) → Contains kept s → Contains (all_states n m) s
@@ -314,7 +320,7 @@ module _ (d : KnownRows) (groups : List Group) (ids : List ℕ) where
       added : (user : ℕ) → user < n → (o : Option Person) → Contains (kept_if groups named others user o) s → Contains (all_states n m) s
       added user less None h = absurd (omega (arith, h.1))
       added user less (Some u) h =
-          let i = from-map (λ i. state_with (Some i) user) (kept_groups u groups named others) s h in
+          let i = from-map (λ i. state_with (Some i) user) (kept_groups u groups (named u) (others u)) s h in
           subst (Contains (all_states n m)) i.2 (added-inside n m user i.0 less (listed-inside u i.0 i.1))
 
       go : Contains (states_with n None) s ⊎ Contains (flat_map (kept_at d groups named others) (range_with_len 0 n)) s
@@ -325,7 +331,7 @@ module _ (d : KnownRows) (groups : List Group) (ids : List ℕ) where
           let user = from-flat (kept_at d groups named others) (range_with_len 0 n) s h in
           added user.0 (in-range n user.0 user.1.0) (slice_get d.people user.0) user.1.1
 
-  pub are-kept : (p : Policy) (bs : List Block) → AreIds p bs groups ids → AreKept p bs d groups kept
+  pub are-kept : (p : Policy) (bs : Person → List Block) → AreUnnamed p bs groups ids → AreKept p bs d groups kept
   are-kept p bs unnamed = record {
     ids = ids;
     unnamed = unnamed;
@@ -336,7 +342,7 @@ module _ (d : KnownRows) (groups : List Group) (ids : List ℕ) where
 
 -- states that are the same ones, in any order
 moved-kept :
-    (p : Policy) (bs : List Block) (d : KnownRows) (groups : List Group) (one other : List State) →
+    (p : Policy) (bs : Person → List Block) (d : KnownRows) (groups : List Group) (one other : List State) →
     ((s : State) → has_state other s ≡ has_state one s) → AreKept p bs d groups one → AreKept p bs d groups other
 moved-kept p bs d groups one other same keeps = record {
   ids = keeps.ids;
@@ -352,11 +358,56 @@ moved-kept p bs d groups one other same keeps = record {
     moved : (s : State) → Contains one s → Contains other s
     moved s inside = has-in other s (same s ∙ in-has one s inside)
 
-pub host-keeps : (h : HostSteps) → AreKept h.checked.now (deciding h.least h.blocks.now) h.directory.now h.groups.now h.states.now
+-- the blocks that decide for each user on a host
+abbrev pub blocks_for : HostSteps → Person → List Block
+blocks_for h = deciding_for h.least (option_copied h.cut.now.name) h.cut.now.start h.blocks.now
+
+pub host-keeps : (h : HostSteps) → AreKept h.checked.now (blocks_for h) h.directory.now h.groups.now h.states.now
 host-keeps h =
-    moved-kept h.checked.now (deciding h.least h.blocks.now) h.directory.now h.groups.now
-    (kept_states h.directory.now h.groups.now h.ids.now) h.states.now h.kept
-    (are-kept h.directory.now h.groups.now h.ids.now h.checked.now (deciding h.least h.blocks.now) h.unnamed)
+    moved-kept h.checked.now (blocks_for h) h.directory.now h.groups.now
+    (kept_states h.directory.now h.groups.now (ids_by h.cut.now)) h.states.now h.kept
+    (are-kept h.directory.now h.groups.now (ids_by h.cut.now) h.checked.now (blocks_for h)
+    (cut-unnamed h.checked.now h.least h.blocks.now h.groups.now h.cut.now h.unnamed))
+
+-- ---- Groups that are split
+
+-- the states are the same where the groups are split by the IDs of a cut
+pub kept-split :
+    (d : KnownRows) (groups : List Group) (c : Cut) (own others : SplitGroups) →
+    own.named.items ≡ named_indices c.own_ids.items groups (length groups) →
+    own.unnamed.items ≡ unnamed_indices c.own_ids.items groups (length groups) →
+    others.named.items ≡ named_indices c.ids.items groups (length groups) →
+    others.unnamed.items ≡ unnamed_indices c.ids.items groups (length groups) →
+    kept_by d groups (named_for (option_copied c.name) own others) (unnamed_for (option_copied c.name) own others)
+    ≡ kept_states d groups (ids_by c)
+kept-split d groups c own others own_named own_unnamed named unnamed =
+    ap (λ (xs : List State). states_with (length d.people) None ++ xs)
+    (flat-all (kept_at d groups (named_for (option_copied c.name) own others) (unnamed_for (option_copied c.name) own others))
+    (kept_at d groups (λ u. named_indices (ids_by c u) groups (length groups)) (λ u. unnamed_indices (ids_by c u) groups (length groups)))
+    (λ user. of user (slice_get d.people user)) (range_with_len 0 (length d.people)))
+  where
+    flat-all : (f g : ℕ → List State) → ((i : ℕ) → f i ≡ g i) → (is : List ℕ) → flat_map f is ≡ flat_map g is
+    flat-all f g same [] = refl
+    flat-all f g same (i ∷ is) =
+        ap (λ (xs : List State). xs ++ flat_map f is) (same i) ∙ ap (λ (xs : List State). g i ++ xs) (flat-all f g same is)
+
+    by : (u : Person) (user : ℕ) (k : Bool)
+        → states_by user (kept_groups u groups (cond k own.named.items others.named.items) (cond k own.unnamed.items others.unnamed.items))
+        ≡ states_by user (kept_groups u groups (named_indices (cond k c.own_ids.items c.ids.items) groups (length groups))
+        (unnamed_indices (cond k c.own_ids.items c.ids.items) groups (length groups)))
+    by u user true =
+        ap (λ (is : List ℕ). states_by user (kept_groups u groups is own.unnamed.items)) own_named
+        ∙ ap (λ (is : List ℕ). states_by user (kept_groups u groups (named_indices c.own_ids.items groups (length groups)) is)) own_unnamed
+    by u user false =
+        ap (λ (is : List ℕ). states_by user (kept_groups u groups is others.unnamed.items)) named
+        ∙ ap (λ (is : List ℕ). states_by user (kept_groups u groups (named_indices c.ids.items groups (length groups)) is)) unnamed
+
+    of : (user : ℕ) (o : Option Person)
+        → kept_if groups (named_for (option_copied c.name) own others) (unnamed_for (option_copied c.name) own others) user o
+        ≡ kept_if groups (λ u. named_indices (ids_by c u) groups (length groups)) (λ u. unnamed_indices (ids_by c u) groups (length groups))
+        user o
+    of user None = refl
+    of user (Some u) = by u user (is_called (option_copied c.name) u)
 
 -- ---- The states of one user more
 
@@ -372,15 +423,15 @@ kept-pushed old one two three user named had lacked first second third =
     ∙ ap (λ (xs : List State). states_by user named ++ xs) (map-append (λ i. state_with (Some i) user) had lacked)))
 
 pub kept-more :
-    (d : KnownRows) (groups : List Group) (named others : List ℕ) (user : ℕ) (u : Person) (old new : List State) →
+    (d : KnownRows) (groups : List Group) (named others : Person → List ℕ) (user : ℕ) (u : Person) (old new : List State) →
     slice_get d.people user ≡ Some u →
     old ≡ states_with (length d.people) None ++ flat_map (kept_at d groups named others) (range_with_len 0 user) →
-    new ≡ old ++ states_by user (kept_groups u groups named others) →
+    new ≡ old ++ states_by user (kept_groups u groups (named u) (others u)) →
     new ≡ states_with (length d.people) None ++ flat_map (kept_at d groups named others) (range_with_len 0 (user + 1))
 kept-more d groups named others user u old new is so_far grown =
-    grown ∙ ap (λ (xs : List State). xs ++ states_by user (kept_groups u groups named others)) so_far
+    grown ∙ ap (λ (xs : List State). xs ++ states_by user (kept_groups u groups (named u) (others u))) so_far
     ∙ append_assoc (states_with (length d.people) None) (flat_map (kept_at d groups named others) (range_with_len 0 user))
-    (states_by user (kept_groups u groups named others))
+    (states_by user (kept_groups u groups (named u) (others u)))
     ∙ ap (λ (xs : List State). states_with (length d.people) None ++ xs)
     (ap (λ (xs : List State). flat_map (kept_at d groups named others) (range_with_len 0 user) ++ xs)
     (sym (ap (kept_if groups named others user) is))

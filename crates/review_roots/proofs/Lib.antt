@@ -35,6 +35,7 @@ pub mod UnnamedLemmas
 pub mod AlikeLemmas
 pub mod AloneLemmas
 pub mod RunasLemmas
+pub mod CutLemmas
 pub mod SoleLemmas
 pub mod UserLemmas
 pub mod KeptLemmas

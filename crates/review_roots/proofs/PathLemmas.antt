@@ -1,7 +1,7 @@
 -- A chain from a state is one, through the states that are kept, from each kept state that is alike.
 use Rattle.std.proofs.Common.{◌≡◌, ◌<◌, ◌≤◌, ◌∙◌, ℕ, zero, suc, Bool, true, false, not, ◌||◌}
 use Rattle.std.proofs.Common.{◌==◌, List, [], ◌∷◌, ap, arith, get_or, length}
-use Rattle.std.proofs.Common.{refl, subst, sym, Option, Some, None, inl, inr, ◌⊎◌}
+use Rattle.std.proofs.Common.{refl, subst, sym, Option, Some, None, inl, inr, option_copied, ◌⊎◌}
 use Rattle.std.specs.Prelude.{All, option_map, slice_get}
 use Rattle.std.specs.List.{Contains, list_any}
 use Rattle.std.specs.Ordering.{is_gt}
@@ -17,7 +17,8 @@ use Rattle.review_roots.specs.declared.level.Level.{Level}
 use Rattle.review_roots.specs.declared.search.Found.{Found}
 use Rattle.review_roots.specs.declared.search.Sought.{Sought}
 use Rattle.review_roots.specs.declared.state.State.{State}
-use Rattle.review_roots.specs.Body.Deciding.{deciding}
+use Rattle.review_roots.specs.Asked.{given_towards}
+use Rattle.review_roots.specs.Body.Deciding.{towards_by}
 use Rattle.review_roots.specs.Body.Found.{AreFound, AreStarts, HaveNoChain, IsComplete, IsFound, IsFoundAt, IsLinked}
 use Rattle.review_roots.specs.Body.Found.{any_sought, found_states, kept_steps}
 use Rattle.review_roots.specs.Body.Kept.{AreAlike, AreBothUnnamed, AreKept, IsAlike}
@@ -27,9 +28,9 @@ use Rattle.review_roots.specs.Order.{state_cmp}
 use Rattle.review_roots.specs.Ranks.{is_at_least}
 use Rattle.review_roots.specs.Sought.{any_steps, steps_of}
 use Rattle.review_roots.specs.States.{given_between, group_at, is_start, level_for, state_with, with_added}
-use Rattle.review_roots.proofs.AlikeLemmas.{IsWithin, has-more, towards-same}
-use Rattle.review_roots.proofs.DecidingLemmas.{decided}
-use Rattle.review_roots.proofs.KeptLemmas.{host-keeps}
+use Rattle.review_roots.proofs.AlikeLemmas.{IsWithin, has-more, name-kept, towards-same}
+use Rattle.review_roots.proofs.DecidingLemmas.{decided-for}
+use Rattle.review_roots.proofs.KeptLemmas.{blocks_for, host-keeps}
 use Rattle.review_roots.proofs.RootLemmas.{not-found}
 use Rattle.review_roots.proofs.SearchLemmas.{at-contains, path-state}
 use Rattle.review_roots.proofs.UserLemmas.{one-row}
@@ -190,7 +191,7 @@ module _ (ids : List ℕ) (u : Person) where
 -- ---- Steps and chains on a host
 
 module _ (h : HostSteps) (q : Sought) (known : directory_fault h.directory.now.people h.directory.now.machines ≡ None)
-    (keeps : AreKept h.checked.now (deciding h.least h.blocks.now) h.directory.now h.groups.now h.states.now) where
+    (keeps : AreKept h.checked.now (blocks_for h) h.directory.now h.groups.now h.states.now) where
   abbrev g : Steps State
   g = steps_of h q
 
@@ -220,6 +221,15 @@ module _ (h : HostSteps) (q : Sought) (known : directory_fault h.directory.now.p
   abbrev pub AreSame : Level → Level → Type 0
   AreSame a b = (l : Level) → is_at_least h.least l ≡ true → is_at_least l a ≡ is_at_least l b
 
+  -- what a user with the added group of a state is given, by the blocks that decide for the user
+  decided-at : (s : State) (u v : Person) (o : Option Group) (l : Level) → is_at_least h.least l ≡ true
+      → is_at_least l (level_for q.counted (given_towards h.checked.now h.directory.now h.host.now (with_added u (added s)) v o))
+      ≡ is_at_least l (level_for q.counted
+      (towards_by h.checked.now h.directory.now (blocks_for h u) h.host.now (with_added u (added s)) v o))
+  decided-at s u v o l above =
+      decided-for h.checked.now h.directory.now h.blocks.now h.host.now h.least h.tied h.listed (option_copied h.cut.now.name)
+      h.cut.now.start h.unnamed.cut u (with_added u (added s)) (name-kept u (added s)) v o q.counted l above
+
   -- steps between states that are alike are the same, but for one between two that are alike to one another
   pub step-same : (s s' t t' : State) → Alike s s' → Alike t t' → Alike s t ⊎ AreSame (g.level s t) (g.level s' t')
   step-same s s' t t' from to = go (slice_get people s.user) refl (slice_get people t.user) refl
@@ -237,26 +247,25 @@ module _ (h : HostSteps) (q : Sought) (known : directory_fault h.directory.now.p
           (is_same_user v u ≡ true → has_asked (with_added u (added s)) (added t) ≡ has_asked (with_added u (added s')) (added t')) →
           AreSame (level-with s t (Some u) (Some v)) (level-with s' t' (Some u) (Some v))
       given u v is at own l above =
-          decided h.checked.now h.directory.now h.blocks.now h.host.now h.least h.tied h.listed (with_added u (added s)) v (added t)
-          q.counted l above
+          decided-at s u v (added t) l above
           ∙ ap (λ a. is_at_least l (level_for q.counted a))
-          (towards-same h.checked.now h.directory.now (deciding h.least h.blocks.now) h.host.now h.groups.now keeps.ids keeps.unnamed u v
-          (added s) (added s') (added t) (added t') (from.1 u is) (to.1 v at) (within s.added) (within s'.added) (within t.added)
+          (towards-same h.checked.now h.directory.now (blocks_for h u) h.host.now h.groups.now (keeps.ids u) (keeps.ids v)
+          (keeps.unnamed.own u) (keeps.unnamed.others u v) u v (added s) (added s') (added t) (added t') (from.1 u is) (to.1 v at)
+          (within s.added) (within s'.added) (within t.added)
           (within t'.added) own)
-          ∙ sym (decided h.checked.now h.directory.now h.blocks.now h.host.now h.least h.tied h.listed (with_added u (added s')) v
-          (added t') q.counted l above)
+          ∙ sym (decided-at s' u v (added t') l above)
 
       both : (u v : Person) → slice_get people s.user ≡ Some u → slice_get people t.user ≡ Some v
           → Alike s t ⊎ AreSame (g.level s t) (g.level s' t')
       both u v is at = itself (is_same_user v u) refl
         where
-          fits : (v ≡ u) → IsAlike keeps.ids u (added s) (added t) ⊎ (has_asked (with_added u (added s)) (added t)
+          fits : (v ≡ u) → IsAlike (keeps.ids u) u (added s) (added t) ⊎ (has_asked (with_added u (added s)) (added t)
               ≡ has_asked (with_added u (added s')) (added t')) → s.user ≡ t.user → Alike s t ⊎ AreSame (g.level s t) (g.level s' t')
           fits same (inl alike) user =
               inl (
                 user,
                 λ w is_w. let e : u ≡ w = let f : Some u ≡ Some w = sym is ∙ is_w in cc in
-                    subst (λ w. IsAlike keeps.ids w (added s) (added t)) e alike,
+                    subst (λ w. IsAlike (keeps.ids w) w (added s) (added t)) e alike,
               )
           fits same (inr has) user = inr (carried (Some u) (Some v) is at (given u v is at (λ yes. has)))
 
@@ -267,8 +276,8 @@ module _ (h : HostSteps) (q : Sought) (known : directory_fault h.directory.now.p
           itself true e =
               let row = one-row people h.directory.now.machines known s.user t.user u v is at e in
               fits (sym row.0)
-              (own-fits keeps.ids u (added s) (added s') (added t) (added t') (from.1 u is)
-              (subst (λ w. IsAlike keeps.ids w (added t) (added t')) (sym row.0) (to.1 v at))) row.1
+              (own-fits (keeps.ids u) u (added s) (added s') (added t) (added t') (from.1 u is)
+              (subst (λ w. IsAlike (keeps.ids w) w (added t) (added t')) (sym row.0) (to.1 v at))) row.1
 
       go : (u : Option Person) → slice_get people s.user ≡ u → (v : Option Person) → slice_get people t.user ≡ v
           → Alike s t ⊎ AreSame (g.level s t) (g.level s' t')
@@ -281,8 +290,8 @@ module _ (h : HostSteps) (q : Sought) (known : directory_fault h.directory.now.p
     sym one.0 ∙ other.0,
     λ u is.
         let is_s = ap (slice_get h.directory.now.people) one.0 ∙ is in
-        alike-trans keeps.ids u (group_at h.groups.now t.added) (group_at h.groups.now s.added) (group_at h.groups.now t'.added)
-        (alike-swap keeps.ids u (group_at h.groups.now s.added) (group_at h.groups.now t.added) (one.1 u is_s)) (other.1 u is_s),
+        alike-trans (keeps.ids u) u (group_at h.groups.now t.added) (group_at h.groups.now s.added) (group_at h.groups.now t'.added)
+        (alike-swap (keeps.ids u) u (group_at h.groups.now s.added) (group_at h.groups.now t.added) (one.1 u is_s)) (other.1 u is_s),
   )
 
   -- a chain of no more steps leads from the state

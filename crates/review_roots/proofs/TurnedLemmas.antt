@@ -23,7 +23,6 @@ use Rattle.review_roots.specs.Body.Candidates.{states_of}
 use Rattle.review_roots.specs.Body.Found.{AreFound, AreGiven, AreOrdered, AreStarts, AreTurned, IsBest, IsFound, IsFoundAt}
 use Rattle.review_roots.specs.Body.Found.{IsLinked, IsStuck, PointBack, HaveNoChain, aims_at, any_sought, first_of, found_states}
 use Rattle.review_roots.specs.Body.Found.{is_asked, is_left, kept_steps, unasked_sought, found_there}
-use Rattle.review_roots.specs.Body.Deciding.{deciding}
 use Rattle.review_roots.specs.Body.Kept.{AreAlike, AreKept}
 use Rattle.review_roots.specs.Body.Passing.{IsAlong, IsTraced}
 use Rattle.review_roots.specs.Chains.{Steps, Path, here, more, HasNoPath, LeadsAlong}
@@ -38,7 +37,7 @@ use Rattle.review_roots.proofs.EaseLemmas.{asks-always, chain-asks-most, counted
 use Rattle.review_roots.proofs.EaseLemmas.{step-unasked, worse-most}
 use Rattle.review_roots.proofs.FirstLemmas.{first-along, first-states, one-place}
 use Rattle.review_roots.proofs.FreeLemmas.{best-level, leading-at}
-use Rattle.review_roots.proofs.KeptLemmas.{host-keeps}
+use Rattle.review_roots.proofs.KeptLemmas.{blocks_for, host-keeps}
 use Rattle.review_roots.proofs.LayerLemmas.{IsFresh, get-append-split, pick-none, pick-some, pick-state, spread-given}
 use Rattle.review_roots.proofs.MemberLemmas.{from-filter}
 use Rattle.review_roots.proofs.OrderLemmas.{behind-itself, behind-trans, from-picked, to-picked}
@@ -119,7 +118,7 @@ module _
     abbrev states : List State
     states = (any_steps h target).states
 
-    keeps : AreKept h.checked.now (deciding h.least h.blocks.now) h.directory.now h.groups.now h.states.now
+    keeps : AreKept h.checked.now (blocks_for h) h.directory.now h.groups.now h.states.now
     keeps = host-keeps h
 
     start-state : Contains states start

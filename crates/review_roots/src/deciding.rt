@@ -14,15 +14,15 @@ fn is_settled(least: Level, block: &Block<'_>) -> bool
     !block_raises(least, block) || block.effect.settles()
 }
 
-// Whether each of the blocks that raises settles what is given.
-fn are_settled(least: Level, blocks: &[Block<'_>]) -> bool
+/// Whether each of the blocks that raises settles what is given.
+pub(crate) fn are_settled(least: Level, blocks: &[Block<'_>]) -> bool
     ensures { result ≡ list_all (spec.is_settled least) blocks.now }
 {
     blocks.iter().all(|block| is_settled(least, block))
 }
 
-// Returns the blocks from the first one on that raises.
-fn from_raising<'b, 'a>(least: Level, blocks: &'b [Block<'a>]) -> &'b [Block<'a>]
+/// Returns the blocks from the first one on that raises.
+pub(crate) fn from_raising<'b, 'a>(least: Level, blocks: &'b [Block<'a>]) -> &'b [Block<'a>]
     ensures { result.now ≡ spec.from_raising least blocks.now }
 {
     let mut left = blocks;

@@ -6,10 +6,9 @@ ghost use Rattle.review_roots.specs.Blocks.{AreBlocks, block_resolves, is_for};
 ghost use Rattle.review_roots.specs.Body.Alike.{AreFirsts, AreFirstsBy, HaveAlikeRunas, host_list};
 ghost use Rattle.review_roots.specs.Body.Candidates.{AreCandidates, has_state, states_of};
 ghost use Rattle.review_roots.specs.Order.{IsInOrder};
-ghost use Rattle.review_roots.specs.Body.Deciding.{deciding};
-ghost use Rattle.review_roots.specs.Body.Kept.{kept_states};
+ghost use Rattle.review_roots.specs.Body.Deciding.{AreCutIds};
+ghost use Rattle.review_roots.specs.Body.Kept.{ids_by, kept_states};
 ghost use Rattle.review_roots.specs.Body.Raising.{block_raises, indices, passes_at};
-ghost use Rattle.review_roots.specs.Body.Unnamed.{AreIds};
 ghost use Rattle.review_roots.specs.Ranks.{is_at_least};
 ghost use Rattle.review_roots.specs.declared.level.Level.TheVariants as level;
 ghost use Rattle.review_roots.specs.declared.state.State.{State as TheState};
@@ -18,6 +17,7 @@ use crate::Level;
 use crate::alike::earlier;
 use crate::block::Block;
 use crate::candidate::Candidate;
+use crate::cut::Cut;
 use crate::rules::Rules;
 use crate::state::State;
 use crate::steps::is_at;
@@ -43,8 +43,8 @@ pub struct HostSteps<'r, 'a> {
     pub(crate) raising: &'r [usize],
     // For some blocks, the index of an earlier one with the same runas.
     pub(crate) runas: &'r [usize],
-    // The IDs of the groups that a list of a block names that decides.
-    pub(crate) ids: &'r [u32],
+    // Which groups count for whom.
+    pub(crate) cut: &'r Cut<'a>,
     // The states that stand for all, in their order.
     pub(crate) states: &'r [State],
     pub(crate) candidates: &'r [Candidate],
@@ -61,9 +61,9 @@ pub struct HostSteps<'r, 'a> {
     ghost here: { on.items ≡ map (is_for checked.now host.now) blocks.now },
     ghost covered: { AreCandidates checked.now directory.now groups.now least blocks.now
         states.now candidates.now },
-    ghost unnamed: { AreIds checked.now (deciding least blocks.now) groups.now ids.now },
+    ghost unnamed: { AreCutIds checked.now least blocks.now groups.now cut.now },
     ghost kept: { (s : TheState) → has_state states.now s
-        ≡ has_state (kept_states directory.now groups.now ids.now) s },
+        ≡ has_state (kept_states directory.now groups.now (ids_by cut.now)) s },
     ghost states_order: { IsInOrder directory.now states.now },
     ghost candidates_order: { IsInOrder directory.now (states_of candidates.now) },
     ghost faultless: { directory_fault directory.now.people directory.now.machines ≡ None },
@@ -135,7 +135,7 @@ impl<'r, 'a> HostSteps<'r, 'a> {
             blocks,
             raising: rules.raising.as_slice(),
             runas: rules.runas.as_slice(),
-            ids: rules.ids.as_slice(),
+            cut: &rules.cut,
             states: rules.states.as_slice(),
             candidates: rules.candidates.as_slice(),
             places: rules.places.as_slice(),

@@ -1,7 +1,9 @@
 //! States that stand for all: of the added groups that no list names, a user keeps one that it has and one that it lacks.
-ghost use Rattle.std.specs.Prelude.{◌≡◌, ◌++◌, IfOk, OnOk, find, not};
+ghost use Rattle.std.specs.Prelude.{◌≡◌, ◌++◌, IfOk, OnOk, find, not, option_copied};
+ghost use Rattle.review_roots.specs.Body.Deciding.{is_called};
 ghost use Rattle.review_roots.specs.Body.Kept as spec;
 
+use crate::cut::Cut;
 use crate::state::{State, push_states};
 use crate::unnamed::{SplitGroups, split_groups};
 use std::alloc::{AllocError, Global};
@@ -81,21 +83,56 @@ fn push_kept(
     push_any(user, first_lacked(person, groups, &split.unnamed), states)
 }
 
+// Whether the user has the name, if there is one.
+fn is_called(name: Option<&[u8]>, person: &Person) -> bool
+    ensures { result ≡ is_called (option_copied name.entry) person.now }
+{
+    let Some(name) = name else {
+        return false;
+    };
+    name == person.name.as_slice()
+}
+
+// Appends the same, where the groups are split for the user of the name, and for the others.
+fn push_split(
+    user: usize,
+    person: &Person,
+    groups: &[Group],
+    name: Option<&[u8]>,
+    own: &SplitGroups,
+    others: &SplitGroups,
+    states: &mut Vec<State>,
+) -> Result<(), AllocError>
+    ensures { OnOk result (states.new.items ≡ states.old.items
+        ++ spec.states_by user (spec.kept_groups person.now groups.now
+        (spec.named_for (option_copied name.entry) own.now others.now person.now)
+        (spec.unnamed_for (option_copied name.entry) own.now others.now person.now))) }
+{
+    if is_called(name, person) {
+        push_kept(user, person, groups, own, states)
+    } else {
+        push_kept(user, person, groups, others, states)
+    }
+}
+
 // Returns the states that are kept, where the groups are split.
 fn kept_by(
     alloc: Global,
     directory: &Directory,
     groups: &[Group],
-    split: &SplitGroups,
+    name: Option<&[u8]>,
+    own: &SplitGroups,
+    others: &SplitGroups,
 ) -> Result<Vec<State>, AllocError>
     ensures { IfOk result (λ states. states.items ≡ spec.kept_by directory.now groups.now
-        split.now.named.items split.now.unnamed.items) }
+        (spec.named_for (option_copied name.entry) own.now others.now)
+        (spec.unnamed_for (option_copied name.entry) own.now others.now)) }
 {
     let people = directory.people();
     let mut states = Vec::new(alloc);
     push_states(people.len(), None, &mut states)?;
     for user in 0..people.len() {
-        push_kept(user, &people[user], groups, split, &mut states)?;
+        push_split(user, &people[user], groups, name, own, others, &mut states)?;
     }
     Ok(states)
 }
@@ -114,16 +151,17 @@ pub(crate) fn have_room(states: &[State], blocks: usize) -> bool {
 }
 
 /// Returns states that stand for all on the way to a target: each user without an added group; with each added group that has one of
-/// the IDs; and with the first other one that the user has, and the first that it lacks. Returns `AllocError` if allocation fails.
+/// the IDs for it; and with the first other one that the user has, and the first that it lacks. Returns `AllocError` if allocation fails.
 pub(crate) fn kept_states(
     alloc: Global,
     directory: &Directory,
     groups: &[Group],
-    ids: &[u32],
+    cut: &Cut<'_>,
 ) -> Result<Vec<State>, AllocError>
     ensures { IfOk result (λ states. states.items
-        ≡ spec.kept_states directory.now groups.now ids.now) }
+        ≡ spec.kept_states directory.now groups.now (spec.ids_by cut.now)) }
 {
-    let split = split_groups(alloc, ids, groups)?;
-    kept_by(alloc, directory, groups, &split)
+    let own = split_groups(alloc, &cut.own_ids, groups)?;
+    let others = split_groups(alloc, &cut.ids, groups)?;
+    kept_by(alloc, directory, groups, cut.name, &own, &others)
 }

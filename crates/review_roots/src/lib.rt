@@ -11,6 +11,7 @@ mod block;
 mod blocks;
 mod candidate;
 mod chains;
+mod cut;
 mod deciding;
 mod effect;
 mod firsts;

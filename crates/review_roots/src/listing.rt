@@ -12,8 +12,8 @@ use sudo_match::Person;
 use sudo_policy::{Atom, Checked, Member};
 use sudo_verdict::lists_user;
 
-// Returns the name, if the list is one name alone.
-fn sole_name(users: &[Member]) -> Option<&[u8]>
+/// Returns the name, if the list is one name alone.
+pub(crate) fn sole_name(users: &[Member]) -> Option<&[u8]>
     ensures { (name : Bor (List ℕ)) (p : ThePolicy) (u : ThePerson) → result ≡ Some name
         → user_allowed p users.now u ≡ bytes_eq name.now u.name }
 {

@@ -6,11 +6,10 @@ ghost use Rattle.review_roots.specs.Blocks.{AreBlocks, block_resolves};
 ghost use Rattle.review_roots.specs.Body.Alike.{AreFirsts, AreFirstsBy, HaveAlikeRunas, host_list};
 ghost use Rattle.review_roots.specs.Body.Candidates.{AreCandidates, has_state, states_of};
 ghost use Rattle.review_roots.specs.Order.{IsInOrder};
-ghost use Rattle.review_roots.specs.Body.Deciding.{deciding};
-ghost use Rattle.review_roots.specs.Body.Kept.{kept_states};
+ghost use Rattle.review_roots.specs.Body.Deciding.{AreCutIds};
+ghost use Rattle.review_roots.specs.Body.Kept.{ids_by, kept_states};
 ghost use Rattle.review_roots.specs.Body.Naming.{AreRows, IsBase};
 ghost use Rattle.review_roots.specs.Body.Raising.{block_raises, indices};
-ghost use Rattle.review_roots.specs.Body.Unnamed.{AreIds};
 ghost use Rattle.review_roots.specs.Ranks.{is_at_least};
 ghost use Rattle.review_roots.specs.declared.level.Level.TheVariants as level;
 ghost use Rattle.review_roots.specs.declared.state.State.{State as TheState};
@@ -21,7 +20,7 @@ use crate::base::{Base, base_of};
 use crate::block::Block;
 use crate::blocks::blocks_of;
 use crate::candidate::{Candidate, hopeful};
-use crate::deciding::deciding;
+use crate::cut::{Cut, cut_of};
 use crate::ground::Ground;
 use crate::kept::{are_few, have_room, kept_states};
 use crate::naming::naming;
@@ -29,7 +28,6 @@ use crate::order::sort_states;
 use crate::raising::raising_of;
 use crate::runas::alike_runas;
 use crate::state::State;
-use crate::unnamed::named_ids;
 use std::alloc::{AllocError, Global};
 use sudo_match::{Directory, Group};
 use sudo_policy::Checked;
@@ -54,8 +52,8 @@ pub struct Rules<'a> {
     pub(crate) alike: Vec<usize>,
     // For some blocks, the index of an earlier one with the same runas.
     pub(crate) runas: Vec<usize>,
-    // The IDs of the groups that a list of a block names that decides.
-    pub(crate) ids: Vec<u32>,
+    // Which groups count for whom.
+    pub(crate) cut: Cut<'a>,
     // The states that stand for all, in their order.
     pub(crate) states: Vec<State>,
     pub(crate) candidates: Vec<Candidate>,
@@ -71,9 +69,9 @@ pub struct Rules<'a> {
     ghost resolve: { IsTrue (list_all (block_resolves checked.now) blocks.items) },
     ghost covered: { AreCandidates checked.now directory.now groups.now least blocks.items
         states.items candidates.items },
-    ghost unnamed: { AreIds checked.now (deciding least blocks.items) groups.now ids.items },
+    ghost unnamed: { AreCutIds checked.now least blocks.items groups.now cut },
     ghost kept: { (s : TheState) → has_state states.items s
-        ≡ has_state (kept_states directory.now groups.now ids.items) s },
+        ≡ has_state (kept_states directory.now groups.now (ids_by cut)) s },
     ghost states_order: { IsInOrder directory.now states.items },
     ghost candidates_order: { IsInOrder directory.now (states_of candidates.items) },
     ghost faultless: { directory_fault directory.now.people directory.now.machines ≡ None },
@@ -168,8 +166,8 @@ impl<'a> Rules<'a> {
         let alike = alike_hosts(alloc, &blocks)?;
         let runas = alike_runas(alloc, &blocks)?;
         directory.has_no_fault();
-        let ids = named_ids(alloc, checked, deciding(least, &blocks), groups)?;
-        let mut states = kept_states(alloc, directory, groups, &ids)?;
+        let cut = cut_of(alloc, checked, least, &blocks, groups)?;
+        let mut states = kept_states(alloc, directory, groups, &cut)?;
         sort_states(directory, &mut states)?;
         let few = are_few(directory.people().len(), &states);
         let ground = Ground {
@@ -193,7 +191,7 @@ impl<'a> Rules<'a> {
             raising,
             alike,
             runas,
-            ids,
+            cut,
             states,
             candidates,
             places,

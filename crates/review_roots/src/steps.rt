@@ -1,16 +1,17 @@
 //! What the steps of users on one host give.
-ghost use Rattle.std.specs.Prelude.{◌≡◌, ◌≤◌, ℕ, ◌&&◌, IfOk, None, Some, drop, false, fold, length, true, option_copied, slice_get};
+ghost use Rattle.std.specs.Prelude.{◌≡◌, ◌≤◌, ℕ, ◌&&◌, IfOk, IsTrue, None, Some, drop, false, fold, length, true, option_copied, slice_get};
 ghost use Rattle.std.specs.Borrow.{Bor};
-ghost use Rattle.std.specs.List.{list_any, slice_index_or};
+ghost use Rattle.std.specs.List.{list_all, list_any, slice_index_or};
 ghost use Rattle.sudo_verdict.specs.Questions.{question_as};
 ghost use Rattle.sudo_verdict.specs.RunasForms.{runas_allows};
 ghost use Rattle.review_roots.specs.Asked.{given_alone, given_asked, given_towards, nothing};
-ghost use Rattle.review_roots.specs.Blocks.{with_rows};
+ghost use Rattle.review_roots.specs.Blocks.{block_resolves, with_rows};
 ghost use Rattle.review_roots.specs.Body.Candidates as spec;
 ghost use Rattle.review_roots.specs.Body.Found.{IsCandidate, IsTowardOf};
 ghost use Rattle.review_roots.specs.Body.May as most;
 ghost use Rattle.review_roots.specs.Body.Settled.{given_at, settles_at, settles_of};
-ghost use Rattle.review_roots.specs.Body.Towards.{HasStrong, IsToward};
+ghost use Rattle.review_roots.specs.Body.Raising.{passes_at};
+ghost use Rattle.review_roots.specs.Body.Towards.{HasStrong, IsToward, asker_allowed};
 ghost use Rattle.review_roots.specs.Ranks.{is_at_least};
 ghost use Rattle.review_roots.specs.States.{level_for, person_of, step_given};
 ghost use Rattle.review_roots.specs.declared.candidate.Candidate.{Candidate as TheCandidate};
@@ -19,6 +20,7 @@ ghost use Rattle.review_roots.specs.declared.level.Level.{Level as TheLevel};
 ghost use Rattle.review_roots.specs.declared.toward.Toward.{Toward as TheToward};
 
 use crate::Level;
+use crate::block::Block;
 use crate::candidate::{Candidate, candidate_at, is_same_user};
 use crate::given::{Counted, Given, NOTHING};
 use crate::ground::Ground;
@@ -27,7 +29,8 @@ use crate::may::{MAY_NOTHING, May};
 use crate::state::{State, group_at};
 use crate::toward::{Toward, toward_at};
 use std::alloc::{AllocError, Global};
-use sudo_match::{Group, Person};
+use sudo_match::{Directory, Group, Person};
+use sudo_policy::Checked;
 use sudo_verdict::{Asker, allows_runas};
 
 /// Whether the list has true at the index.
@@ -45,6 +48,25 @@ fn both_at(one: &[bool], other: &[bool], index: usize) -> bool
     ensures { result ≡ spec.both_at one.now other.now index }
 {
     is_at(one, index) && is_at(other, index)
+}
+
+// Whether the block at the index is for the host, and its runas allows what is asked.
+fn stands_at(
+    checked: &Checked,
+    directory: &Directory,
+    blocks: &[Block<'_>],
+    on: &[bool],
+    asker: Asker<'_>,
+    index: usize,
+) -> bool
+    requires { IsTrue (list_all (block_resolves checked.now) blocks.now) }
+    ensures { result ≡ passes_at (λ b. slice_index_or on.now index false
+        && asker_allowed checked.now directory.now asker.entry b) blocks.now index }
+{
+    match blocks.get(index) {
+        Some(block) => is_at(on, index) && allows_runas(checked, directory, asker, block.runas),
+        None => false,
+    }
 }
 
 impl<'r, 'a> HostSteps<'r, 'a> {
@@ -207,18 +229,15 @@ impl<'r, 'a> HostSteps<'r, 'a> {
             (option_copied asker.entry.target) (option_copied asker.entry.group))
             (option_copied b.runas)) self.now.blocks.now index) }
     {
-        match self.blocks.get(index) {
-            Some(block) => {
-                if is_at(&self.on, index)
-                    && allows_runas(self.checked, self.directory, asker, block.runas)
-                {
-                    given.with_block(block)
-                } else {
-                    given
-                }
-            }
-            None => given,
-        }
+        let stands = stands_at(
+            self.checked,
+            self.directory,
+            self.blocks,
+            &self.on,
+            asker,
+            index,
+        );
+        self.with_block_if(given, index, stands)
     }
 
     // Returns what the rows give the user that asks for a target by name, if any, and for a group, if any.

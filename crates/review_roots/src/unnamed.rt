@@ -185,19 +185,25 @@ fn ids_by(alloc: Global, atoms: &GroupAtoms, groups: &[Group]) -> Result<Vec<u32
     Ok(ids)
 }
 
-/// Returns the IDs of those of the groups that a list of the blocks names. Returns `AllocError` if allocation fails.
+/// Returns the IDs of those of the groups that a list of users of the blocks names, or a list of groups of all blocks. Returns
+/// `AllocError` if allocation fails.
 pub(crate) fn named_ids(
     alloc: Global,
     checked: &Checked,
     blocks: &[Block<'_>],
+    all: &[Block<'_>],
     groups: &[Group],
 ) -> Result<Vec<u32>, AllocError>
-    requires { IsTrue (list_all (block_resolves checked.now) blocks.now) }
-    ensures { IfOk result (λ ids. spec.AreIds checked.now blocks.now groups.now ids.items) }
+    requires blocks { IsTrue (list_all (block_resolves checked.now) blocks.now) }
+    requires all { IsTrue (list_all (block_resolves checked.now) all.now) }
+    ensures users { IfOk result (λ ids. spec.AreUserIds checked.now blocks.now groups.now
+        ids.items) }
+    ensures groups { IfOk result (λ ids. spec.AreGroupIds checked.now all.now groups.now
+        ids.items) }
 {
     let atoms = GroupAtoms {
         users: users_of(alloc, checked, blocks)?,
-        groups: groups_of(alloc, checked, blocks)?,
+        groups: groups_of(alloc, checked, all)?,
     };
     ids_by(alloc, &atoms, groups)
 }

@@ -74,6 +74,16 @@ is_unnamed ids g = not (list_any (λ i. i == g.gid) ids)
 abbrev pub AreIds : Policy → List Block → List Group → List ℕ → Type 0
 AreIds p bs groups ids = (g : Group) → Contains groups g → is_unnamed ids g ≡ true → IsUnnamed p bs g
 
+-- no list of users, or of runas users, of the blocks names a group that has none of these IDs
+abbrev pub AreUserIds : Policy → List Block → List Group → List ℕ → Type 0
+AreUserIds p bs groups ids =
+    (g : Group) → Contains groups g → is_unnamed ids g ≡ true → (b : Block) → Contains bs b → list_names g (block_users p b) ≡ false
+
+-- no list of groups of the blocks names a group that has none of these IDs
+abbrev pub AreGroupIds : Policy → List Block → List Group → List ℕ → Type 0
+AreGroupIds p bs groups ids =
+    (g : Group) → Contains groups g → is_unnamed ids g ≡ true → (b : Block) → Contains bs b → lists_group g (block_groups p b) ≡ false
+
 -- there is a group, and it has none of these IDs
 abbrev pub unnamed_if : List ℕ → Option Group → Bool
 unnamed_if ids None = false

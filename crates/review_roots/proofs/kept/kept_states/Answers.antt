@@ -1,15 +1,19 @@
 use Rattle.std.proofs.Common.{◌∙◌, List, ap, length, ℕ}
 use Rattle.std.proofs.lemmas.Result.{IfOk-weaker}
-use Rattle.review_roots.specs.Body.Kept.{kept_by}
-use Rattle.review_roots.specs.Body.Unnamed.{named_indices}
+use Rattle.review_roots.specs.Body.Unnamed.{named_indices, unnamed_indices}
+use Rattle.review_roots.proofs.KeptLemmas.{kept-split}
 use Rattle.review_roots.proofs.kept.kept_states.Goals as goal
 
 pub returns : goal.returns
 returns c =
-    let d = c.args.directory.now in
     let groups = c.args.groups.now in
-    let split = c.in_ok-split.ensures in
+    let own = c.in_ok-own.ensures in
+    let others = c.in_ok-others.ensures in
     IfOk-weaker c.kept_by.result _ _
-    (λ states is. is ∙ ap (λ (named : List ℕ). kept_by d groups named c.in_ok-split.split.unnamed.items) split.named
-    ∙ ap (λ (others : List ℕ). kept_by d groups (named_indices c.args.ids.now groups (length groups)) others) split.unnamed)
+    (λ states is. is
+    ∙ kept-split c.args.directory.now groups c.args.cut.now c.in_ok-own.own c.in_ok-others.others
+    (own.named ∙ ap (λ (is : List ℕ). named_indices is groups (length groups)) c.deref.ensures.value)
+    (own.unnamed ∙ ap (λ (is : List ℕ). unnamed_indices is groups (length groups)) c.deref.ensures.value)
+    (others.named ∙ ap (λ (is : List ℕ). named_indices is groups (length groups)) c.deref-2.ensures.value)
+    (others.unnamed ∙ ap (λ (is : List ℕ). unnamed_indices is groups (length groups)) c.deref-2.ensures.value))
     c.kept_by.ensures

@@ -4,12 +4,9 @@ use Rattle.review_roots.specs.declared.state.State.{State}
 use Rattle.review_roots.specs.Body.Alike.{AreFirsts, AreFirstsBy, HaveAlikeRunas, host_list}
 use Rattle.review_roots.specs.Body.Candidates.{has_state}
 use Rattle.review_roots.specs.Blocks.{block_resolves}
-use Rattle.review_roots.specs.Body.Deciding.{deciding}
-use Rattle.review_roots.specs.Body.Kept.{kept_states}
+use Rattle.review_roots.specs.Body.Deciding.{AreCutIds}
 use Rattle.review_roots.specs.Body.Raising.{block_raises, indices}
-use Rattle.review_roots.specs.Body.Unnamed.{AreIds}
 use Rattle.review_roots.specs.Order.{IsInOrder}
-use Rattle.review_roots.proofs.DecidingLemmas.{deciding-all}
 use Rattle.review_roots.proofs.rules.Rules.new.Goals as goal
 
 pub invariant_of-result-clause-raised : goal.invariant_of-result-clause-raised
@@ -18,24 +15,16 @@ invariant_of-result-clause-raised c =
 
 pub invariant_of-result-clause-kept : goal.invariant_of-result-clause-kept
 invariant_of-result-clause-kept c = λ s.
-    c.in_ok-sort_states.ensures.same s
-    ∙ ap (λ (ss : List State). has_state ss s)
-    (c.in_ok-states.ensures ∙ ap (kept_states c.args.directory.now c.args.groups.now) c.deref-6.ensures.value)
+    c.in_ok-sort_states.ensures.same s ∙ ap (λ (ss : List State). has_state ss s) c.in_ok-states.ensures
 
 pub invariant_of-result-clause-candidates_order : goal.invariant_of-result-clause-candidates_order
 invariant_of-result-clause-candidates_order c =
     let d = c.args.directory.now in
-    c.in_ok-candidates.ensures.order d (subst (IsInOrder d) (sym c.deref-8.ensures.value) c.in_ok-sort_states.ensures.sorted)
+    c.in_ok-candidates.ensures.order d (subst (IsInOrder d) (sym c.deref-7.ensures.value) c.in_ok-sort_states.ensures.sorted)
 
 pub invariant_of-result-clause-unnamed : goal.invariant_of-result-clause-unnamed
 invariant_of-result-clause-unnamed c =
-    subst (λ bs. AreIds c.args.checked.now bs c.args.groups.now c.in_ok-ids.ids.items)
-    (c.deciding.ensures ∙ ap (deciding c.args.least) c.deref-5.ensures.value) c.in_ok-ids.ensures
-
-pub named_ids-requires : goal.named_ids-requires
-named_ids-requires c =
-    ap (list_all (block_resolves c.args.checked.now)) (c.deciding.ensures ∙ ap (deciding c.args.least) c.deref-5.ensures.value)
-    ∙ deciding-all (block_resolves c.args.checked.now) c.args.least c.in_ok-blocks.blocks.items c.in_ok-blocks.ensures.resolve
+    subst (λ bs. AreCutIds c.args.checked.now c.args.least bs c.args.groups.now c.in_ok-cut.cut) c.deref-5.ensures.value c.in_ok-cut.ensures
 
 pub invariant_of-result-clause-likened : goal.invariant_of-result-clause-likened
 invariant_of-result-clause-likened c =
