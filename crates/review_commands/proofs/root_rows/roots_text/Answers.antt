@@ -1,8 +1,16 @@
-use Rattle.std.proofs.Common.{◌++◌, ◌∷◌, [], ◌∙◌, refl, subst}
+use Rattle.std.proofs.Common.{◌++◌, ◌∷◌, [], ◌∙◌, List, ℕ, ap, append-nil, refl, subst, sym}
 use Rattle.audit_files.specs.Report.{line}
 use Rattle.review_commands.specs.RootRows.{AreHostRows, Each, roots_header}
 use Rattle.review_commands.proofs.RootSteps.{each-next, take-whole, whole-next}
 use Rattle.review_commands.proofs.root_rows.roots_text.Goals as goal
+
+pub loop-host-init : goal.loop-host-init
+loop-host-init c = (
+  [],
+  tt,
+  c.in_ok-push_header.ensures ∙ ap (λ (t : List ℕ). t ++ line roots_header) c.new-text.ensures.items
+      ∙ sym (append-nil (line roots_header)),
+)
 
 pub loop-host-preserved : goal.loop-host-preserved
 loop-host-preserved c =
