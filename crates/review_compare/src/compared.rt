@@ -252,24 +252,7 @@ fn compared_changed(alloc: Global, changed: &Changed<'_, '_>) -> Result<Compared
     }
 }
 
-// Returns commands that are answered otherwise, or else that rows are open.
-fn differs_or_may(
-    alloc: Global,
-    trial: &Trial<'_, '_>,
-    overlap: Overlap<'_>,
-) -> Result<Compared, AllocError>
-    requires { body.AreOpen trial.now.old_rows.now trial.now.new_rows.now overlap }
-    ensures { IfOk result (witnesses.IsCompared (body.all_shown trial.now.old_rows.now)
-        (body.all_shown trial.now.new_rows.now)) }
-{
-    let found = witnesses(alloc, trial)?;
-    if !found.is_empty() {
-        return Ok(Compared::Differs(Seq::from_vec(found)));
-    }
-    may(alloc, with_noted(overlap, trial.old_rows, trial.new_rows))
-}
-
-// Compares rows by tests on pairs of them, and then by commands.
+// Compares rows of which no command is known to be answered otherwise, by tests on pairs of them.
 fn compared_few(alloc: Global, trial: &Trial<'_, '_>) -> Result<Compared, AllocError>
     requires { IsTrial trial.now }
     ensures { IfOk result (witnesses.IsCompared (body.all_shown trial.now.old_rows.now)
@@ -277,37 +260,37 @@ fn compared_few(alloc: Global, trial: &Trial<'_, '_>) -> Result<Compared, AllocE
 {
     match tried_overlap(alloc, trial)? {
         None => Ok(Compared::Same),
-        Some(overlap) => differs_or_may(alloc, trial, overlap),
+        Some(overlap) => may(alloc, with_noted(overlap, trial.old_rows, trial.new_rows)),
     }
 }
 
-// Compares rows by commands, and then by tests on pairs of those near the rows that differ.
+// Compares rows of which no command is known to be answered otherwise, by tests on pairs of those near the rows that differ.
 fn compared_many(alloc: Global, trial: &Trial<'_, '_>) -> Result<Compared, AllocError>
     ensures { IfOk result (witnesses.IsCompared (body.all_shown trial.now.old_rows.now)
         (body.all_shown trial.now.new_rows.now)) }
 {
-    let found = witnesses(alloc, trial)?;
-    if !found.is_empty() {
-        return Ok(Compared::Differs(Seq::from_vec(found)));
-    }
     let changed = Changed::between(alloc, trial.old_rows, trial.new_rows)?;
     compared_changed(alloc, &changed)
 }
 
-/// Compares the rows of two policies for a target: by tests on pairs of rows of which one differs, and, where these do not tell that
-/// both say the same, by commands that may be answered otherwise. Where more than a thousand rows of one of the policies may fit a
-/// command of a row that differs, nothing is known but by commands. What is noted may be met or not: the command of a witness is
-/// decided by rows before which nothing is noted, and other rows cover the same rows alone. Returns `AllocError` if allocation fails.
+/// Compares the rows of two policies for a target: by commands that may be answered otherwise, and then by tests on pairs of
+/// rows of which one differs. Where more than a thousand rows of one of the policies may fit a command of a row that differs,
+/// nothing is known but by commands. What is noted may be met or not: the command of a witness is decided by rows before
+/// which nothing is noted, and other rows cover the same rows alone. Returns `AllocError` if allocation fails.
 pub(crate) fn compared_rows(alloc: Global, trial: &Trial<'_, '_>) -> Result<Compared, AllocError>
     requires { IsTrial trial.now }
     ensures { IfOk result (witnesses.IsCompared (body.all_shown trial.now.old_rows.now)
         (body.all_shown trial.now.new_rows.now)) }
 {
-    if trial.old_rows.len() <= MOST_ROWS && trial.new_rows.len() <= MOST_ROWS {
-        return compared_few(alloc, trial);
-    }
     if have_same_rulings(trial.old_rows, trial.new_rows) {
         return Ok(Compared::Same);
+    }
+    let found = witnesses(alloc, trial)?;
+    if !found.is_empty() {
+        return Ok(Compared::Differs(Seq::from_vec(found)));
+    }
+    if trial.old_rows.len() <= MOST_ROWS && trial.new_rows.len() <= MOST_ROWS {
+        return compared_few(alloc, trial);
     }
     compared_many(alloc, trial)
 }
