@@ -18,9 +18,12 @@ from typing import NamedTuple
 import listing
 from drawn import Drawn
 from listing import FITS, FITS_GROUP, GROUPS, KNOWN_GROUPS, written_out
-from support import REVIEW, needs_review
+from support import PROGRAM, REVIEW, needs_program, needs_review
 
 POLICIES = int(os.environ.get("POLICIES", "100"))
+REQUESTS = 25
+USERS = [user for user in GROUPS if user != "root"]
+HOSTS = sorted(listing.KNOWN_HOSTS)
 HEADER = "user,host,target,level,password,place,tags,via,depends"
 LEVELS = ("none", "listed", "all-but", "all")
 PASSWORDS = ("none", "?", "own", "other")
@@ -340,6 +343,35 @@ class Roots(Drawn):
             with self.subTest(seed=seed, policy=str(policy)):
                 seen.update(self.bounded(Noted(policy, seed)))
         self.assertGreater(min(seen["time"], seen[""]), 0, seen)
+
+    def contradicted(self, policy: str, requests: list[listing.Request]) -> Iterator[str]:
+        """Yields the levels, and what `sudo_audit` says there to requests of users for root. Fails where a grant of everything
+        does not allow one, or one is allowed to a user whom nothing leads to root."""
+        self.write("p", policy)
+        rows = {(row.user, row.host): row for row in self.table("--all")}
+        _, *answers = csv.reader(self.report(PROGRAM, "audit", policy, requests))
+        for request, (_, _, verdict, *_) in zip(requests, answers, strict=True):
+            row = rows.get((request.user, request.host))
+            if row is None:
+                self.assertIn(verdict, ("deny", "nomatch"), request)
+            elif row.level == "all" and not row.via:
+                self.assertEqual(verdict, "allow", (request, row))
+            yield f"{row.level if row else 'none'} {verdict}"
+
+    @needs_program
+    def test_no_request_contradicts_a_level(self) -> None:
+        seen: Counter[str] = Counter()
+        for seed in range(POLICIES):
+            drawn = listing.Draw(seed)
+            choice = random.Random(seed).choice
+            requests = [
+                drawn.request()._replace(user=choice(USERS), host=choice(HOSTS), runas_user="root", runas_group="")
+                for _ in range(REQUESTS)
+            ]
+            for policy in (Draw(seed).policy, drawn.policy):
+                with self.subTest(seed=seed, policy=str(policy)):
+                    seen.update(self.contradicted(str(policy), requests))
+        self.assertGreater(min(seen[word] for word in ("all allow", "none deny", "none nomatch", "listed allow")), 0, seen)
 
     def test_the_rows_are_those_of_the_second_body(self) -> None:
         seen: Counter[str] = Counter()
