@@ -17,21 +17,21 @@ USERS = {"root": 0, "alice": 1000, "bob": 1001, "carol": 1002, "two words": 1003
 HOSTS = ("web1", "web2.example.org", "db1", "DB2", "mail.example.org")
 COMMANDS = ("/opt/a", "/opt/b", "/opt/c")
 # What fields of triples have: any, none, who is known, and names that look like something else.
-TRIPLE_USERS = ("", "-", "-", *USERS, "zoe", "ALL", "%adm", "A1", "!bob", "bob,carol", "(x)", 'q"q', "b\\s", "x=y")
-TRIPLE_HOSTS = ("", "-", "-", *HOSTS, "WEB1", "web2", "mail", "none.such", "ALL", "A1", "Web2.Example.Org")
+TRIPLE_USERS = ("", "-", "-", *USERS, "zoe", "ALL", "%adm", "ADMINS", "!bob", "bob,carol", "(x)", 'q"q', "b\\s", "x=y")
+TRIPLE_HOSTS = ("", "-", "-", *HOSTS, "WEB1", "web2", "mail", "none.such", "ALL", "ADMINS", "Web2.Example.Org")
 NON_UNIX = "%:"
 NETGROUPS = ("ng1", "ng2", "ng3", "NG4", "n-g.5", "two words", "%:ng1", "%:NG4", "%:two words", "none")
 UNKNOWN = ("gone", "ng", "NG1", "ng11", "%:ng2")
 NOBODY = {"user": "\\x00", "runas": "\\x00", "host": "no-such-host"}
 # What is put into lines with a netgroup of one user and one host of the same name, which is longer than that of the netgroup.
 PIECES = (
-    *('"+ng1"', "+ng1", "alice", "ALL", "%adm", "A1", "x", "/opt/a", "/16", "NOPASSWD:", "list", "!lecture"),
+    *('"+ng1"', "+ng1", "alice", "ALL", "%adm", "ADMINS", "x", "/opt/a", "/16", "NOPASSWD:", "list", "!lecture"),
     *("Defaults", "User_Alias ", "#c", " ", "\t", "\r", "\\\n", " \\\n ", ",", "!", "=", "(", ")", ":", " : "),
     *('"', "\\", "#", ".", "-", "_", "*", "+", "%", "@", ">"),
 )
 ONLY = "webserver1"
 LINES = 2000
-ALIASES = {"user": "A1", "runas": "R1", "host": "H1"}
+ALIASES = {"user": "ADMINS", "runas": "RUNNERS", "host": "SERVERS"}
 
 
 class Member(NamedTuple):
@@ -192,8 +192,8 @@ def torn_line(draw: random.Random, mark: str) -> str:
         [drawn(), " ", drawn(of_hosts), " = ", "/opt/a"],
         ["Defaults", draw.choice(":>"), drawn(), " ", "!lecture"],
         ["Defaults@", drawn(of_hosts), " ", "!lecture"],
-        [draw.choice(("User", "Runas")), "_Alias ", "A1", " = ", drawn()],
-        ["Host_Alias ", "A1", " = ", drawn(of_hosts)],
+        [draw.choice(("User", "Runas")), "_Alias ", "ADMINS", " = ", drawn()],
+        ["Host_Alias ", "ADMINS", " = ", drawn(of_hosts)],
     ))
     for _ in range(draw.randint(0, 2)):
         parts.insert(draw.randrange(len(parts) + 1), draw.choice(pieces).replace("+ng1", f"{mark}ng1"))
