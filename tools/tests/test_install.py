@@ -255,21 +255,21 @@ class Completions(unittest.TestCase):
     def test_words_of_commands(self) -> None:
         for program, command in (("sudo_audit", "audit"), ("sudo_review", "report"), ("sudo_review", "rules")):
             with self.subTest(program=program, command=command):
-                root = ["--root", "--netgroups"] if program == "sudo_review" else []
+                root = ["--root", "--netgroups", "--hostname"] if program == "sudo_review" else []
                 options = [*root, "--users", "--hosts", "--workers", "--help"]
                 self.assertEqual(self.proposed(program, command, "p", "-"), options)
                 self.assertEqual(self.proposed(program, command, "p", "--workers", "16"), ["16"])
                 self.assertEqual(self.proposed(program, command, "p", "s=di"), ["a file for di"])
-        self.assertEqual(self.proposed("sudo_review", "check", "-"), ["--root", "--netgroups", "--help"])
-        options = ["--root", "--netgroups", "--links", "--without", "--help"]
+        self.assertEqual(self.proposed("sudo_review", "check", "-"), ["--root", "--netgroups", "--hostname", "--help"])
+        options = ["--root", "--netgroups", "--hostname", "--links", "--without", "--help"]
         self.assertEqual(self.proposed("sudo_review", "cautions", "-"), options)
         self.assertEqual(self.proposed("sudo_review", "cautions", "--without", ""), list(read_table("cautions")["classes"]))
-        options = ["--root", "--netgroups", "--users", "--hosts", "--user", "--host", "--help"]
+        options = ["--root", "--netgroups", "--hostname", "--users", "--hosts", "--user", "--host", "--help"]
         self.assertEqual(self.proposed("sudo_review", "grants", "p", "-"), options)
-        options = ["--root", "--netgroups", "--users", "--hosts", "--all", "--help"]
+        options = ["--root", "--netgroups", "--hostname", "--users", "--hosts", "--all", "--help"]
         self.assertEqual(self.proposed("sudo_review", "roots", "p", "-"), options)
         self.assertEqual(self.proposed("sudo_review", "subjects", "p", "-"), [*options[:-2], "--help"])
-        options = ["--netgroups", "--users", "--hosts", "--user", "--host", "--requests", "--help"]
+        options = ["--netgroups", "--hostname", "--users", "--hosts", "--user", "--host", "--requests", "--help"]
         self.assertEqual(self.proposed("sudo_review", "compare", "p", "q", "-"), options)
         self.assertEqual(self.proposed("sudo_review", "compare", "p", "q", "--requests", "s=di"), ["a file for di"])
         self.assertEqual(self.proposed("sudo_review", "subjects", "p", "--users", "d"), ["a file for d"])

@@ -9,7 +9,7 @@ use Rattle.audit_commands.specs.NamedFaults.{fault_named}
 use Rattle.audit_collect.specs.declared.report.Report.{Report}
 use Rattle.audit_run.specs.Names.{names_under}
 use Rattle.audit_run.specs.Passes.{PassView}
-use Rattle.audit_run.specs.IsAuditResult.{IsAuditResult}
+use Rattle.audit_run.specs.IsAuditResult.{IsAuditResult, IsResult}
 use Rattle.audit_run.specs.declared.fault.AuditFault.{AuditFault}
 use Rattle.audit_files.specs.Feeding.{Ahead}
 use Rattle.sudo_match.specs.KnownRows.{KnownRows}
@@ -24,31 +24,22 @@ use Rattle.audit_commands.specs.declared.fault.ReportFault.TheVariants as report
 
 -- an audit returns no fault that names nothing, but for memory
 pub is_named : (policy : Policy) (directory : KnownRows) (sources : List (List ℕ)) (readable_bytes : List (Option Ahead))
-    (workers : ℕ) (before after : PassView) (fault : AuditFault) → (fault ≡ audits.Memory → ⊥)
-    → IsAuditResult (names_under policy directory) sources readable_bytes workers before after (Err fault)
+    (fault : AuditFault) → (fault ≡ audits.Memory → ⊥) → IsResult (names_under policy directory) sources readable_bytes (Err fault)
     → IsSome (fault_named sources fault)
-is_named policy directory sources readable_bytes workers before after (audits.Sender name part fault) other h = refl
-is_named policy directory sources readable_bytes workers before after
-    (audits.Collect (collects.Refused (refusals.Double s n))) other h = refl
-is_named policy directory sources readable_bytes workers before after
-    (audits.Collect (collects.Refused (refusals.ClosedTwice s))) other h = refl
-is_named policy directory sources readable_bytes workers before after
-    (audits.Collect (collects.Refused (refusals.PastClose s n))) other h = refl
-is_named policy directory sources readable_bytes workers before after
-    (audits.Collect (collects.Refused (refusals.Stranger s))) other h = absurd h.outcome.1
-is_named policy directory sources readable_bytes workers before after
-    (audits.Collect (collects.Refused (refusals.ZeroNumber s))) other h = absurd h.outcome.1
-is_named policy directory sources readable_bytes workers before after
-    (audits.Collect (collects.Refused refusals.Memory)) other h = absurd h.outcome.1
-is_named policy directory sources readable_bytes workers before after (audits.Collect (collects.Unfinished lack)) other h = refl
-is_named policy directory sources readable_bytes workers before after
-    (audits.Collect (collects.Roster rosters.TooManySenders)) other h = refl
-is_named policy directory sources readable_bytes workers before after
-    (audits.Collect (collects.Roster (rosters.SenderTwice n))) other h = absurd h
-is_named policy directory sources readable_bytes workers before after (audits.Collect (collects.Roster rosters.Memory)) other h = absurd h
-is_named policy directory sources readable_bytes workers before after audits.NoThread other h = refl
-is_named policy directory sources readable_bytes workers before after audits.TooManyParts other h = refl
-is_named policy directory sources readable_bytes workers before after audits.Memory other h = absurd (other refl)
+is_named policy directory sources readable_bytes (audits.Sender name part fault) other h = refl
+is_named policy directory sources readable_bytes (audits.Collect (collects.Refused (refusals.Double s n))) other h = refl
+is_named policy directory sources readable_bytes (audits.Collect (collects.Refused (refusals.ClosedTwice s))) other h = refl
+is_named policy directory sources readable_bytes (audits.Collect (collects.Refused (refusals.PastClose s n))) other h = refl
+is_named policy directory sources readable_bytes (audits.Collect (collects.Refused (refusals.Stranger s))) other h = absurd h.outcome.1
+is_named policy directory sources readable_bytes (audits.Collect (collects.Refused (refusals.ZeroNumber s))) other h = absurd h.outcome.1
+is_named policy directory sources readable_bytes (audits.Collect (collects.Refused refusals.Memory)) other h = absurd h.outcome.1
+is_named policy directory sources readable_bytes (audits.Collect (collects.Unfinished lack)) other h = refl
+is_named policy directory sources readable_bytes (audits.Collect (collects.Roster rosters.TooManySenders)) other h = refl
+is_named policy directory sources readable_bytes (audits.Collect (collects.Roster (rosters.SenderTwice n))) other h = absurd h.outcome
+is_named policy directory sources readable_bytes (audits.Collect (collects.Roster rosters.Memory)) other h = absurd h.outcome
+is_named policy directory sources readable_bytes audits.NoThread other h = refl
+is_named policy directory sources readable_bytes audits.TooManyParts other h = refl
+is_named policy directory sources readable_bytes audits.Memory other h = absurd (other refl)
 
 -- the same of names that are those of the sources
 pub named_if_other : (policy : Policy) (directory : KnownRows) (names sources : List (List ℕ))
@@ -57,7 +48,7 @@ pub named_if_other : (policy : Policy) (directory : KnownRows) (names sources : 
     → (fault ≡ audits.Memory → ⊥) → IsSome (fault_named names fault)
 named_if_other policy directory names sources readable_bytes workers fault same h other =
     subst (λ (ns : List (List ℕ)). IsSome (fault_named ns fault)) (sym same)
-    (is_named policy directory sources readable_bytes workers h.before h.after fault other h.audited)
+    (is_named policy directory sources readable_bytes fault other h.audited)
 
 pub unreported_is : (policy : Policy) (directory : KnownRows) (names sources : List (List ℕ))
     (readable_bytes : List (Option Ahead)) (workers : ℕ) (fault : AuditFault) (r : ReportFault) → names ≡ sources
@@ -101,14 +92,16 @@ pub answer_of : (given : Given) (policy : Policy) (r : Result Report ReportFault
     → IfOk r (λ report. IsAnswerUnder policy given.users given.hosts given.sources given.readable_bytes given.workers (Ok report))
     → IfOk r (λ report. IsAnswer given policy (Ok report))
 answer_of given policy (Ok report) is h =
-    record { is_policy = is; directory = h.directory; is_directory = h.is_directory; answers = h.answers }
+    record { is_policy = is; directory = h.directory; is_directory = h.is_directory; answers = h.answers.audited }
 answer_of given policy (Err fault) is h = tt
 
 not_audited : (given : Given) (policy : Policy) (fault : ReportFault) → IsChecked given.held given.path policy
     → IsNoAnswer policy given.users given.hosts given.sources given.readable_bytes given.workers fault → IsNotAudited given fault
 not_audited given policy (reports.Requests named) is h =
     let under = h.1 in
-    (policy, h.0, record { is_policy = is; directory = under.directory; is_directory = under.is_directory; answers = under.answers }, h.2)
+    let answer : IsAnswer given policy (Err h.0) =
+    record { is_policy = is; directory = under.directory; is_directory = under.is_directory; answers = under.answers.audited } in
+    (policy, h.0, answer, h.2)
 not_audited given policy (reports.Directory fault) is h = (h.0, (policy, is), h.1)
 not_audited given policy reports.Memory is h = tt
 not_audited given policy (reports.Policy fault) is h = absurd h
@@ -123,7 +116,8 @@ pub answered : (policy : Policy) (directory : KnownRows) (sources : List (List �
     (readable_bytes : List (Option Ahead)) (workers : ℕ) (before after : PassView) (result : Result Report AuditFault)
     → IsAuditResult (names_under policy directory) sources readable_bytes workers before after result
     → Answers policy directory sources readable_bytes workers result
-answered policy directory sources readable_bytes workers before after result h = record { before = before; after = after; audited = h }
+answered policy directory sources readable_bytes workers before after result h =
+    record { before = before; after = after; audited = h.0; leaves = h.1 }
 
 -- the text of a report is the output of an audit whose answer it is
 pub printed_of : (given : Given) (policy : Policy) (answered : Result Report ReportFault) (r : Result RunOutput ReportFault)

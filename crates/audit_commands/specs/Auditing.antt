@@ -9,7 +9,7 @@ use Rattle.audit_files.specs.Users.{people}
 use Rattle.audit_run.specs.Names.{names_under}
 use Rattle.audit_run.specs.Passes.{PassView}
 use Rattle.audit_files.specs.Report.{report_text}
-use Rattle.audit_run.specs.IsAuditResult.{IsAuditResult}
+use Rattle.audit_run.specs.IsAuditResult.{IsResult, LeavesPass}
 use Rattle.audit_run.specs.declared.fault.AuditFault.{AuditFault}
 use Rattle.sudo_match.specs.declared.fault.DirFault.{DirFault}
 use Rattle.sudo_match.specs.KnownRows.{KnownRows, directory_fault}
@@ -39,29 +39,18 @@ pub record Given : Type 1 where
 
 -- the input, its parts in this order
 abbrev pub given_by : Holdings → List ℕ → Option Ahead → Option Ahead → List (List ℕ) → List (Option Ahead) → ℕ → Given
-given_by held path users hosts sources readable_bytes workers = record {
-  held = held;
-  path = path;
-  users = users;
-  hosts = hosts;
-  sources = sources;
-  readable_bytes = readable_bytes;
-  workers = workers;
-}
+given_by held path users hosts sources bytes workers =
+    (record { held = held; path = path; users = users; hosts = hosts; sources = sources; readable_bytes = bytes; workers = workers })
 
 -- these are the users and hosts that the files state, and they have no fault
-pub record IsDirectory (users hosts : Option Ahead) (directory : KnownRows) : Type 0 where
-  pub people_read : IsRead people users (Ok directory.people)
-  pub machines_read : IsRead machines hosts (Ok directory.machines)
-  pub no_fault : directory_fault directory.people directory.machines ≡ None
+abbrev pub IsDirectory : Option Ahead → Option Ahead → KnownRows → Type 0
+IsDirectory users hosts directory = IsRead people users (Ok directory.people) × IsRead machines hosts (Ok directory.machines)
+    × (directory_fault directory.people directory.machines ≡ None)
 
 -- the files state users and hosts that have this fault together
-pub record AreRefused (users hosts : Option Ahead) (fault : DirFault) : Type 0 where
-  pub persons : List Person
-  pub rows : List Machine
-  pub people_read : IsRead people users (Ok persons)
-  pub machines_read : IsRead machines hosts (Ok rows)
-  pub refusal : directory_fault persons rows ≡ Some fault
+abbrev pub AreRefused : Option Ahead → Option Ahead → DirFault → Type 0
+AreRefused users hosts fault = (persons : List Person) × (rows : List Machine) × IsRead people users (Ok persons)
+    × IsRead machines hosts (Ok rows) × (directory_fault persons rows ≡ Some fault)
 
 -- why the files state no directory: the users file has a fault; it is sound, and the hosts file has
 -- one; or both are sound, and their rows together have one; or memory failed
@@ -72,12 +61,13 @@ IsNoDirectory users hosts (directories.Hosts fault) =
 IsNoDirectory users hosts (directories.Both fault) = AreRefused users hosts fault
 IsNoDirectory users hosts directories.Memory = ⊤
 
--- the result of an audit of the sources under a policy and a directory
+-- the result of an audit of the sources under a policy and a directory, by this many workers
 pub record Answers (policy : Policy) (directory : KnownRows) (sources : List (List ℕ))
     (readable_bytes : List (Option Ahead)) (workers : ℕ) (result : Result Report AuditFault) : Type 0 where
   pub before : PassView
   pub after : PassView
-  pub audited : IsAuditResult (names_under policy directory) sources readable_bytes workers before after result
+  pub audited : IsResult (names_under policy directory) sources readable_bytes result
+  pub leaves : LeavesPass (names_under policy directory) sources readable_bytes workers before after result audited
 
 -- why an audit under a policy and a directory has no report
 abbrev pub IsUnreported : Policy → KnownRows → List (List ℕ) → List (Option Ahead) → ℕ → ReportFault → Type 0
@@ -105,12 +95,12 @@ IsNoAnswer policy users hosts sources readable_bytes workers reports.Memory = �
 IsNoAnswer policy users hosts sources readable_bytes workers (reports.Policy fault) = ⊥
 
 -- the result of an audit under the policy, which passes the check, and the directory that the files
--- state
+-- state; it is one that any number of workers may return
 pub record IsAnswer (given : Given) (policy : Policy) (result : Result Report AuditFault) : Type 0 where
   pub is_policy : IsChecked given.held given.path policy
   pub directory : KnownRows
   pub is_directory : IsDirectory given.users given.hosts directory
-  pub answers : Answers policy directory given.sources given.readable_bytes given.workers result
+  pub answers : IsResult (names_under policy directory) given.sources given.readable_bytes result
 
 -- the output of `audit` with status 0: the text of the report
 pub record IsAudited (given : Given) (text : List ℕ) (status : ℕ) : Type 0 where

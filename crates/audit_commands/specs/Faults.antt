@@ -25,20 +25,12 @@ use Rattle.audit_commands.specs.declared.requests_fault.RequestsFault.TheVariant
 abbrev pub file_status : FileFault → ℕ
 file_status file_faults.Read = 4
 file_status file_faults.Memory = 4
-file_status file_faults.Header = 3
-file_status (file_faults.BadRow row) = 3
-file_status (file_faults.OutOfOrder row) = 3
-file_status (file_faults.RowAfterClose row) = 3
-file_status file_faults.TooMany = 3
+file_status fault = 3
 
 -- the status for users and hosts that are refused together
 abbrev pub both_status : DirFault → ℕ
-both_status (directories.UserTwice name) = 3
-both_status (directories.HostTwice name) = 3
-both_status (directories.GroupClash name) = 3
-both_status (directories.NoGroup user) = 3
-both_status directories.NoRoot = 3
 both_status directories.Memory = 4
+both_status fault = 3
 
 -- the status for users and hosts that form no directory: they are refused, or memory failed
 abbrev pub directory_status : DirectoryFault → ℕ
@@ -50,14 +42,8 @@ directory_status directory_faults.Memory = 4
 -- the status for requests that have no report: a file is refused, the requests are, or a thread could not be started
 abbrev pub requests_status : RequestsFault → ℕ
 requests_status (requests.File sender part fault) = file_status fault
-requests_status (requests.Twice sender number) = 3
-requests_status (requests.ClosedTwice sender) = 3
-requests_status (requests.PastClose sender number) = 3
-requests_status (requests.NotClosed sender) = 3
-requests_status (requests.Missing sender number) = 3
-requests_status requests.TooManySenders = 3
-requests_status requests.TooManyParts = 3
 requests_status requests.NoThread = 4
+requests_status fault = 3
 
 -- the status for files that are not opened
 abbrev pub sources_status : SourcesFault → ℕ

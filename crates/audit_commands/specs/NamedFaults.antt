@@ -30,9 +30,7 @@ abbrev pub refusal_named : List (List ℕ) → Refused → Option RequestsFault
 refusal_named names (refusals.Double sender number) = Some (requests.Twice (sender_named names sender) number)
 refusal_named names (refusals.ClosedTwice sender) = Some (requests.ClosedTwice (sender_named names sender))
 refusal_named names (refusals.PastClose sender number) = Some (requests.PastClose (sender_named names sender) number)
-refusal_named names (refusals.Stranger sender) = None
-refusal_named names (refusals.ZeroNumber sender) = None
-refusal_named names refusals.Memory = None
+refusal_named names refused = None
 
 -- what the sources lack
 abbrev pub lack_named : List (List ℕ) → Unfinished → RequestsFault
@@ -45,8 +43,6 @@ fault_named names (audits.Sender name part fault) = Some (requests.File name (pa
 fault_named names (audits.Collect (collects.Refused refused)) = refusal_named names refused
 fault_named names (audits.Collect (collects.Unfinished lack)) = Some (lack_named names lack)
 fault_named names (audits.Collect (collects.Roster rosters.TooManySenders)) = Some requests.TooManySenders
-fault_named names (audits.Collect (collects.Roster (rosters.SenderTwice name))) = None
-fault_named names (audits.Collect (collects.Roster rosters.Memory)) = None
 fault_named names audits.TooManyParts = Some requests.TooManyParts
 fault_named names audits.NoThread = Some requests.NoThread
-fault_named names audits.Memory = None
+fault_named names fault = None

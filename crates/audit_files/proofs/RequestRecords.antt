@@ -37,7 +37,7 @@ pub close_no_request : (a b c d e f g : List ℕ) (n : ℕ) → close_of (a ∷ 
     → request_of (a ∷ b ∷ c ∷ d ∷ e ∷ f ∷ g ∷ []) ≡ None
 close_no_request a [] [] d e f g n h = refl
 close_no_request a (y ∷ ys) [] d e f g n h = refl
-close_no_request a b (x ∷ xs) d e f g n h = by (Rattle.audit_files.specs.Requests.same_text a _) h
+close_no_request a b (x ∷ xs) d e f g n h = by (Rattle.std.specs.Prelude.bytes_eq a _) h
   where
     by : (s : Bool) → cond (s && false) (numeral_value b) None ≡ Some n → request_of (a ∷ b ∷ (x ∷ xs) ∷ d ∷ e ∷ f ∷ g ∷ []) ≡ None
     by true e2 = cc

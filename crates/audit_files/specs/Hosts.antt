@@ -18,11 +18,7 @@ hosts_header = codes "host" ∷ codes "interfaces" ∷ []
 
 -- the byte of an address: a number below 256
 abbrev pub address_byte : List ℕ → Option ℕ
-address_byte text = octet_in (numeral_value text)
-  where
-    octet_in : Option ℕ → Option ℕ
-    octet_in None = None
-    octet_in (Some n) = if nat_lt n 256 then Some n else None
+address_byte text = option_and_then (λ n. if nat_lt n 256 then Some n else None) (numeral_value text)
 
 -- the address of four bytes, the first one highest
 abbrev pub address_by : Option ℕ → Option ℕ → Option ℕ → Option ℕ → Option ℕ

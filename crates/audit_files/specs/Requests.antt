@@ -1,9 +1,8 @@
 -- The content of a requests file.
 use Rattle.std.specs.Prelude.{⊤, ◌<◌, ℕ, suc, Bool, false, not, List, [], ◌∷◌, ◌+◌, ◌-◌, ◌==◌, ◌&&◌, ◌||◌, nat_le}
-use Rattle.std.specs.Prelude.{nat_eq, length, codes, filter_map, slice_get, is_some, Option, Some, None, Result}
+use Rattle.std.specs.Prelude.{bytes_eq, length, codes, filter_map, slice_get, is_some, Option, Some, None, Result}
 use Rattle.std.specs.Prelude.{option_map, if◌then◌else◌}
 use Rattle.std.specs.Option.{option_map_or}
-use Rattle.std.specs.Cmp.Lexicographic.{pointwise}
 use Rattle.sudo_match.specs.declared.request.Request.{Request}
 use Rattle.audit_files.specs.Files.{value_in_file}
 use Rattle.audit_files.specs.Numerals.{numeral_value}
@@ -12,9 +11,6 @@ use Rattle.audit_files.specs.Rows.{Fields, records_of}
 use Rattle.audit_files.specs.declared.fault.FileFault.{FileFault}
 use Rattle.audit_files.specs.declared.fault.FileFault.TheVariants.{BadRow, OutOfOrder, RowAfterClose, TooMany}
 use Rattle.audit_files.specs.declared.requests.Requests.{Requests}
-
-abbrev pub same_text : List ℕ → List ℕ → Bool
-same_text = pointwise nat_eq
 
 -- the header of a requests file
 abbrev pub requests_header : Fields
@@ -34,7 +30,7 @@ positive _ = None
 -- `sudoedit`, or a path from the root
 abbrev pub is_command : List ℕ → Bool
 is_command [] = false
-is_command (b ∷ rest) = (b == 47) || same_text (b ∷ rest) (codes "sudoedit")
+is_command (b ∷ rest) = (b == 47) || bytes_eq (b ∷ rest) (codes "sudoedit")
 
 -- the number of a request: from 1, beside a user, a host and a command
 abbrev pub asked_number : List ℕ → List ℕ → List ℕ → List ℕ → Option ℕ
@@ -58,7 +54,7 @@ request_of _ = None
 -- the count of a close row: the word, the count and five empty fields
 abbrev pub close_of : Fields → Option ℕ
 close_of (word ∷ count ∷ host ∷ runas_user ∷ runas_group ∷ command ∷ arguments ∷ []) =
-    if same_text word (codes "close")
+    if bytes_eq word (codes "close")
     && (is_empty host && (is_empty runas_user && (is_empty runas_group && (is_empty command && is_empty arguments))))
     then numeral_value count
     else None

@@ -1,6 +1,6 @@
 -- The content of a users file.
-use Rattle.std.specs.Prelude.{⊤, ◌≡◌, ℕ, Bool, true, false, not, List, [], ◌∷◌, ◌++◌, ◌+◌, ◌-◌, ◌==◌, ◌&&◌, ◌||◌}
-use Rattle.std.specs.Prelude.{nat_le, length, codes, bytes_eq, filter_map, flat_map, fold, map, slice_get, is_some}
+use Rattle.std.specs.Prelude.{⊤, ◌≡◌, ℕ, Bool, false, not, List, [], ◌∷◌, ◌++◌, ◌+◌, ◌-◌, ◌==◌, ◌&&◌, ◌||◌}
+use Rattle.std.specs.Prelude.{nat_le, nat_lt, length, codes, bytes_eq, filter_map, flat_map, fold, map, slice_get, is_some}
 use Rattle.std.specs.Prelude.{Option, Some, None, Result, option_map, option_and_then, if◌then◌else◌}
 use Rattle.sudo_match.specs.declared.people.Group.{Group}
 use Rattle.sudo_match.specs.declared.people.Person.{Person}
@@ -23,12 +23,15 @@ membership_of word =
     option_and_then (λ p. if is_empty p.0 then None else option_map (λ n. record { name = p.0; gid = n })
     (numeral_value p.1)) (cut_at 58 word)
 
--- a nonempty user, a number, and groups separated by one space
-abbrev pub person_of : Fields → Option Person
-person_of (user ∷ uid ∷ groups ∷ []) =
+-- a nonempty user, a number, and these groups, if they are stated
+abbrev pub person_with : List ℕ → List ℕ → Option (List Group) → Option Person
+person_with user uid groups =
     if is_empty user then None
-    else option_and_then (λ n. option_map (λ gs. record { name = user; uid = n; groups = gs })
-    (items_of membership_of groups)) (numeral_value uid)
+    else option_and_then (λ n. option_map (λ gs. record { name = user; uid = n; groups = gs }) groups) (numeral_value uid)
+
+-- a user, its number, and groups separated by one space
+abbrev pub person_of : Fields → Option Person
+person_of (user ∷ uid ∷ groups ∷ []) = person_with user uid (items_of membership_of groups)
 person_of _ = None
 
 -- the most rows that a users or a hosts file may have
@@ -55,12 +58,9 @@ groups_of_row gid name =
     then (if is_empty gid then Some [] else None)
     else option_map (λ n. record { name = name; gid = n } ∷ []) (numeral_value gid)
 
--- a nonempty user, a number, and one group or none
+-- a user, its number, and one group or none
 abbrev pub member_of : Fields → Option Person
-member_of (user ∷ uid ∷ gid ∷ group ∷ []) =
-    if is_empty user then None
-    else option_and_then (λ n. option_map (λ gs. record { name = user; uid = n; groups = gs })
-    (groups_of_row gid group)) (numeral_value uid)
+member_of (user ∷ uid ∷ gid ∷ group ∷ []) = person_with user uid (groups_of_row gid group)
 member_of _ = None
 
 -- the users after a row that follows a row of this user: a row of the same user adds its group, and
@@ -83,11 +83,7 @@ abbrev pub users_of : List Fields → List Person
 users_of all = users_of_rows (filter_map member_of all)
 
 abbrev pub has_groups : Person → Bool
-has_groups p = not (is_no_list p.groups)
-  where
-    is_no_list : List Group → Bool
-    is_no_list [] = true
-    is_no_list (g ∷ gs) = false
+has_groups p = nat_lt 0 (length p.groups)
 
 -- a row may follow this user's rows: it is of another user, or it has the user's number, and both
 -- have groups

@@ -36,8 +36,8 @@ use Rattle.audit_run.proofs.HeldRequests.{lacking, whole as whole_sources}
 use Rattle.audit_run.proofs.SourceContent.{all_owned, all_rise}
 use Rattle.audit_run.proofs.Refusals.{refused_of_sources}
 use Rattle.audit_run.proofs.RunReports.{reported}
-use Rattle.audit_run.specs.IsAuditResult.{IsAuditResult, IsOutcome, IsReportOfArrived, IsRunOutcome, MemoryComesFirst}
-use Rattle.audit_run.specs.IsAuditResult.{NoneRefused, most_parts}
+use Rattle.audit_run.specs.IsAuditResult.{HasGained, IsAuditResult, IsOutcome, IsReportOfArrived, IsRunResult}
+use Rattle.audit_run.specs.IsAuditResult.{MemoryComesFirst, NoneRefused, most_parts}
 use Rattle.audit_run.specs.Body.Concluded.{Concludes, RefusesSenders}
 use Rattle.audit_run.specs.Arrivals.{arrivals_of}
 use Rattle.audit_run.specs.Body.Gathered.{collector_after, RanOutOfMemory, Gathers, Drains}
@@ -213,20 +213,16 @@ memory_first_of sources faults comes (Err TooManyParts) a = tt
 -- a result of a run
 audited : (names : Names) (sources : List (List ℕ)) (readable_bytes : List (Option Ahead)) (workers : ℕ)
     (old new : PassView) (faults : List (Option FileFault)) (comes : Result (List SenderState) Refused) (result : Result Report AuditFault)
-    → Concludes sources faults comes result → IsRunOutcome names sources readable_bytes workers old new result
-    → IsAuditResult names sources readable_bytes workers old new result
-audited names sources readable_bytes workers old new faults comes (Ok report) a ran = ran
-audited names sources readable_bytes workers old new faults comes (Err (Sender name part fault)) a ran = ran
-audited names sources readable_bytes workers old new faults comes (Err (Collect (collect.Roster roster_fault.Memory))) a ran = absurd a
-audited names sources readable_bytes workers old new faults comes
-    (Err (Collect (collect.Roster roster_fault.TooManySenders))) a ran = absurd a
-audited names sources readable_bytes workers old new faults comes
-    (Err (Collect (collect.Roster (roster_fault.SenderTwice name)))) a ran = absurd a
-audited names sources readable_bytes workers old new faults comes (Err (Collect (collect.Refused why))) a ran = ran
-audited names sources readable_bytes workers old new faults comes (Err (Collect (collect.Unfinished what))) a ran = ran
-audited names sources readable_bytes workers old new faults comes (Err NoThread) a ran = (ran.few, ran.is_roster)
-audited names sources readable_bytes workers old new faults comes (Err Memory) a ran = tt
-audited names sources readable_bytes workers old new faults comes (Err TooManyParts) a ran = absurd a
+    → Concludes sources faults comes result → (ran : IsRunResult names sources readable_bytes result)
+    → HasGained names sources ran.states workers old new result → IsAuditResult names sources readable_bytes workers old new result
+audited names sources readable_bytes workers old new faults comes (Ok report) a ran gained = (ran, gained)
+audited names sources readable_bytes workers old new faults comes (Err (Sender name part fault)) a ran gained = (ran, gained)
+audited names sources readable_bytes workers old new faults comes (Err (Collect (collect.Roster why))) a ran gained = absurd a
+audited names sources readable_bytes workers old new faults comes (Err (Collect (collect.Refused why))) a ran gained = (ran, gained)
+audited names sources readable_bytes workers old new faults comes (Err (Collect (collect.Unfinished what))) a ran gained = (ran, gained)
+audited names sources readable_bytes workers old new faults comes (Err NoThread) a ran gained = (ran.few, tt)
+audited names sources readable_bytes workers old new faults comes (Err Memory) a ran gained = (tt, tt)
+audited names sources readable_bytes workers old new faults comes (Err TooManyParts) a ran gained = absurd a
 
 -- a result before any thread starts
 pub senders_refused : (names : Names) (sources : List (List ℕ)) (readable_bytes : List (Option Ahead)) (workers : ℕ)
@@ -236,13 +232,13 @@ pub senders_refused : (names : Names) (sources : List (List ℕ)) (readable_byte
 senders_refused names sources readable_bytes workers p (Sender name part fault) few refuses = absurd refuses
 senders_refused names sources readable_bytes workers p (Collect (collect.Roster roster_fault.Memory)) few refuses = absurd refuses
 senders_refused names sources readable_bytes workers p (Collect (collect.Roster roster_fault.TooManySenders)) few
-    refuses = (few, refuses, refl)
+    refuses = ((few, refuses), refl)
 senders_refused names sources readable_bytes workers p (Collect (collect.Roster (roster_fault.SenderTwice name))) few
     refuses = absurd refuses
 senders_refused names sources readable_bytes workers p (Collect (collect.Refused why)) few refuses = absurd refuses
 senders_refused names sources readable_bytes workers p (Collect (collect.Unfinished what)) few refuses = absurd refuses
 senders_refused names sources readable_bytes workers p NoThread few refuses = absurd refuses
-senders_refused names sources readable_bytes workers p Memory few refuses = tt
+senders_refused names sources readable_bytes workers p Memory few refuses = (tt, tt)
 senders_refused names sources readable_bytes workers p TooManyParts few refuses = absurd refuses
 
 pub settled : (names : Names) (sources : List (List ℕ)) (readable_bytes : List (Option Ahead)) (count workers : ℕ)
@@ -290,18 +286,19 @@ settled names sources readable_bytes count workers p p1 p2 p3 prepared ended g r
     subst NoneRefused (sym same_faults) none in
     subst (λ (jobs : List Job). IsPermutation (map (answer names) (replicate workers Stop ++ jobs)) outcomes)
     (whole_put (parts_by_owner sources states) run.put own have_put) all in
-    audited names sources readable_bytes workers p p3 _ _ result decided (record {
-      few = few;
-      is_roster = is_roster;
+    let ran : IsRunResult names sources readable_bytes result = record {
+      few = (few, is_roster.few);
       states = states;
       read = stated.1;
+      outcome = come_to names sources readable_bytes states workers outcomes result stated.1 stated_all decided;
+      memory_first = memory_first_of sources (faults_of states) _ result decided;
+    } in
+    audited names sources readable_bytes workers p p3 _ _ result decided ran (record {
       put = run.put;
       have_put = have_put;
       outcomes = outcomes;
       gained = ap (λ (x : PassView). x.outcomes_taken) three;
       all = all;
-      outcome = come_to names sources readable_bytes states workers outcomes result stated.1 stated_all decided;
-      memory_first = memory_first_of sources (faults_of states) _ result decided;
       arrived = arrived_of sources (faults_of states) outcomes result decided;
       whole = ap (λ (x : PassView). x.weight) three ∙ whole;
       same_handoff = ap (λ (x : PassView). x.handoff) three;

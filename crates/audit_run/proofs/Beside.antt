@@ -49,11 +49,6 @@ made_of f [] i y there = absurd (cc)
 made_of f (x ∷ xs) zero y there = record { item = x; there = refl; is = same_Some (f x) y there }
 made_of f (x ∷ xs) (suc i) y there = let found = made_of f xs i y there in record { item = found.item; there = found.there; is = found.is }
 
-pub at_map : {X Y : Type 0} (f : X → Y) (xs : List X) (i : ℕ) (x : X) → slice_get xs i ≡ Some x → slice_get (map f xs) i ≡ Some (f x)
-at_map f [] i x there = absurd (cc)
-at_map f (z ∷ xs) zero x there = ap (λ w. Some (f w)) (same_Some z x there)
-at_map f (z ∷ xs) (suc i) x there = at_map f xs i x there
-
 -- the sources of both lists
 abbrev pub both : ℕ → List (ℕ × Stated) → List (ℕ × Stated) → List (ℕ × Stated)
 both senders parts more = parts ++ map (part_after senders) more
@@ -118,8 +113,7 @@ whole_same s t parts more asked counts whole = record {
   count = whole.count;
   closed = counts ∙ whole.closed;
   once = λ number low high. ap (count_by (has_number number)) asked ∙ whole.once number low high;
-  no_zero = ap (count_by (has_number 0)) asked ∙ whole.no_zero;
-  none_past = λ number past. ap (count_by (has_number number)) asked ∙ whole.none_past number past;
+  no_other = λ number out. ap (count_by (has_number number)) asked ∙ whole.no_other number out;
 }
 
 module _ (senders others : ℕ) (parts more : List (ℕ × Stated)) (parts_by_owner : All (IsOwned senders) parts) where

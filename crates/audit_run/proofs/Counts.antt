@@ -2,6 +2,7 @@
 use Rattle.std.proofs.Common.{◌≡◌, ◌⊎◌, ℕ, zero, suc, ◌+◌, Bool, true, false, cond, ◌&&◌, ◌==◌, List, [], ◌∷◌, ◌++◌}
 use Rattle.std.proofs.Common.{length, map, flat_map, replicate, Option, None, Some, Ok, Err, nat_lt, count_by}
 use Rattle.std.proofs.Common.{IsPermutation, sym, ap, subst, ◌∙◌, refl, inl, inr, arith}
+use Rattle.std.specs.Prelude.{option_to_list}
 use Rattle.std.proofs.lemmas.List.{map-append}
 use Rattle.audit_collect.specs.declared.arrival.Arrival.{Arrival}
 use Rattle.audit_collect.specs.declared.arrival.Arrival.TheVariants.{Reply, Close}
@@ -16,7 +17,7 @@ use Rattle.audit_run.specs.declared.message.Outcome.TheVariants as outcome
 use Rattle.audit_run.specs.Names.{answer, answer_to}
 use Rattle.sudo_match.specs.declared.request.Request.{Request}
 use Rattle.audit_run.specs.Arrivals.{arrivals_of}
-use Rattle.audit_run.specs.Asked.{count_listed, counts_in, counts_of, has_number, values_of_sender, requests_stated, times_asked}
+use Rattle.audit_run.specs.Asked.{counts_in, counts_of, has_number, values_of_sender, requests_stated, times_asked}
 use Rattle.audit_run.specs.Parts.{Stated, close_jobs, put_by_sources, jobs_or_end, run_jobs}
 use Rattle.audit_run.proofs.Gains.{arrivals_of-append}
 
@@ -97,7 +98,7 @@ module _ (names : Names) where
   -- the arrivals of a source: its replies, and its close mark
   abbrev pub state_arrivals : ℕ → Stated → List Arrival
   state_arrivals sender (Ok requests) = map (λ r. Reply (answer_to names sender r)) requests.list
-      ++ map (λ c. Close sender c) (count_listed requests.close)
+      ++ map (λ c. Close sender c) (option_to_list requests.close)
   state_arrivals sender (Err fault) = []
 
   abbrev pub part_arrivals : ℕ × Stated → List Arrival
@@ -110,7 +111,7 @@ module _ (names : Names) where
   asks_then s (r ∷ requests) rest = ap (λ l. Reply (answer_to names s r) ∷ l) (asks_then s requests rest)
 
   close_then : (s : ℕ) (close : Option ℕ) → arrivals_of (map (answer names) (close_jobs s close ++ job.End s ∷ []))
-      ≡ map (λ c. Close s c) (count_listed close)
+      ≡ map (λ c. Close s c) (option_to_list close)
   close_then s None = refl
   close_then s (Some c) = refl
 
@@ -176,8 +177,8 @@ module _ (names : Names) where
       by false = refl
   part_replies s n (t, Ok requests) =
       let sum = count_by-append (is_reply s n) (map (λ r. Reply (answer_to names t r)) requests.list)
-      (map (λ c. Close t c) (count_listed requests.close)) in
-      let closes = no_reply_in_closes s t n (count_listed requests.close) in
+      (map (λ c. Close t c) (option_to_list requests.close)) in
+      let closes = no_reply_in_closes s t n (option_to_list requests.close) in
       let both : count_by (is_reply s n) (state_arrivals t (Ok requests)) ≡ count_by (is_reply s n)
       (map (λ r. Reply (answer_to names t r)) requests.list) = omega (arith, sum, closes) in
       both ∙ by (t == s) refl
@@ -228,9 +229,9 @@ module _ (names : Names) where
         by false = refl
     part_closes (t, Ok requests) =
         let sum = count_by-append p (map (λ r. Reply (answer_to names t r)) requests.list)
-        (map (λ c. Close t c) (count_listed requests.close)) in
+        (map (λ c. Close t c) (option_to_list requests.close)) in
         let replies = no_replies t requests.list in
-        let closes = closes_by t (t == s) refl (count_listed requests.close) in
+        let closes = closes_by t (t == s) refl (option_to_list requests.close) in
         omega (arith, sum, replies, closes)
 
     pub closes_tested : (parts : List (ℕ × Stated)) → count_by p (flat_map part_arrivals parts) ≡ count_by q (counts_of s parts)

@@ -1,7 +1,8 @@
 -- A collector holds what the sources state, and lacks what they lack.
 use Rattle.std.proofs.Common.{◌≡◌, ℕ, zero, suc, ◌+◌, ◌≤◌, ◌<◌, Bool, true, false, cond, ◌&&◌, ◌==◌, List, [], ◌∷◌}
 use Rattle.std.proofs.Common.{length, map, Option, None, Some, IsSome, IsTrue, Ok, slice_get, is_some, count_by}
-use Rattle.std.proofs.Common.{IsPermutation, sym, ap, subst, ◌∙◌, refl, arith}
+use Rattle.std.proofs.Common.{IsPermutation, sym, ap, subst, ◌∙◌, refl, inl, inr, arith}
+use Rattle.std.proofs.lemmas.Bool.{cases_lt}
 use Rattle.std.proofs.lemmas.Option.{slice_get_within}
 use Rattle.std.specs.FinMap.{get, contains_key}
 use Rattle.audit_collect.specs.declared.arrival.Answer.{Answer}
@@ -107,8 +108,7 @@ module _ (names : Names) (roster : List (List ℕ)) (workers : ℕ) (parts : Lis
       count = finished.count;
       closed = closed_has_one finished.count finished.closed;
       once = λ n one within. once n (get h.answers n) refl ((finished.numbers n).1 (one, within));
-      no_zero = outside 0 (λ inside. let low = inside.0 in omega (arith, low)) (get h.answers 0) refl;
-      none_past = λ n past. outside n (λ inside. let high = inside.1 in omega (arith, high, past)) (get h.answers n) refl;
+      no_other = λ n out. outside n (λ inside. out inside.0 inside.1) (get h.answers n) refl;
     }
       where
         once : (n : ℕ) (o : Option Answer) → get h.answers n ≡ o → IsTrue (contains_key h.answers n) → times_asked s n parts ≡ 1
@@ -118,6 +118,51 @@ module _ (names : Names) (roster : List (List ℕ)) (workers : ℕ) (parts : Lis
         outside : (n : ℕ) → ((1 ≤ n) × (n ≤ finished.count) → ⊥) → (o : Option Answer) → get h.answers n ≡ o → times_asked s n parts ≡ 0
         outside n out None e = not_held_is_not_asked n e
         outside n out (Some a) e = absurd (out ((finished.numbers n).0 (subst (λ o. IsTrue (is_some o)) (sym e) refl)))
+
+    -- and a whole sender is finished
+    finished_of : IsWholeSender s parts → IsFinished h
+    finished_of whole = by h.close refl
+      where
+        inside : (count n : ℕ) → whole.count ≡ count → (o : Option Answer) → get h.answers n ≡ o
+            → IsTrue (contains_key h.answers n) → (1 ≤ n) × (n ≤ count)
+        inside count n same None e has = let never : false ≡ true = subst (λ o. IsTrue (is_some o)) e has in absurd (cc)
+        inside count zero same (Some a) e has =
+            let once = held_is_once 0 a e in
+            let none = whole.no_other 0 (λ low high. omega (arith, low)) in
+            absurd (omega (arith, once, none))
+        inside count (suc n) same (Some a) e has = elim (cases_lt count (suc n)) [
+          | inl past ↦
+              let once = held_is_once (suc n) a e in
+              let none = whole.no_other (suc n) (λ low high. omega (arith, same, past, high)) in
+              absurd (omega (arith, once, none))
+          | inr within ↦ (omega arith, within)
+        ]
+
+        accepted : (count n : ℕ) → whole.count ≡ count → (o : Option Answer) → get h.answers n ≡ o
+            → (1 ≤ n) × (n ≤ count) → IsTrue (contains_key h.answers n)
+        accepted count n same None e bounds =
+            let high = bounds.1 in
+            let once = whole.once n bounds.0 (omega (arith, same, high)) in
+            let none = not_held_is_not_asked n e in
+            absurd (omega (arith, once, none))
+        accepted count n same (Some a) e bounds = subst (λ o. IsTrue (is_some o)) (sym e) refl
+
+        by : (o : Option ℕ) → h.close ≡ o → IsFinished h
+        by None unclosed = let none : whole.count ∷ [] ≡ [] = sym whole.closed ∙ open_has_none unclosed in absurd (cc)
+        by (Some count) closed =
+            let both : whole.count ∷ [] ≡ count ∷ [] = sym whole.closed ∙ closed_has_one count closed in
+            let same : whole.count ≡ count = cc in
+            record {
+              count = count;
+              closed = closed;
+              numbers = λ n. (inside count n same (get h.answers n) refl, accepted count n same (get h.answers n) refl);
+            }
+
+  -- all senders are finished if the sources are whole
+  pub finished_all : AreWhole (length roster) parts → AllFinished held
+  finished_all whole s h there =
+      let within = slice_get_within held s h there in
+      finished_of s h there (whole s (omega (arith, within, long)))
 
   -- what is missing first is what the sources lack
   pub lacking : (what : Unfinished) → IsFirstMissing held what → Lack (length roster) parts what

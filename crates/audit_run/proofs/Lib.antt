@@ -20,3 +20,4 @@ pub mod JoinedFaults
 pub mod JoinedSources
 pub mod ShardLaw
 pub mod Rerun
+pub mod AnyWorkers

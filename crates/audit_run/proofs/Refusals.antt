@@ -1,7 +1,7 @@
 -- A refusal of a collector is a fault that the sources have.
-use Rattle.std.proofs.Common.{◌≡◌, ℕ, ◌≤◌, ◌<◌, Bool, true, List, [], ◌∷◌, length, map, flat_map, Ok, Err, nat_lt}
+use Rattle.std.proofs.Common.{◌≡◌, ℕ, ◌≤◌, ◌<◌, Bool, true, List, [], ◌∷◌, length, map, flat_map, Ok, Err}
 use Rattle.std.proofs.Common.{count_by, IsPermutation, All, ap, subst, ◌∙◌, inl, inr, arith}
-use Rattle.std.proofs.lemmas.Bool.Decides.{nat_tests}
+use Rattle.std.specs.Prelude.{option_to_list}
 use Rattle.std.proofs.lemmas.List.Elements.{All-head, All-tail}
 use Rattle.audit_collect.specs.declared.arrival.Arrival.{Arrival}
 use Rattle.audit_collect.specs.declared.arrival.Arrival.TheVariants.{Reply, Close}
@@ -11,18 +11,18 @@ use Rattle.audit_collect.specs.Faults.{HasFault, is_of, is_reply, is_close, is_c
 use Rattle.audit_collect.specs.SenderState.{after, start}
 use Rattle.audit_collect.proofs.FaultLaw.{refusal_names_fault}
 use Rattle.audit_collect.proofs.HeldLaw.{tested}
-use Rattle.audit_collect.proofs.Members.{Among, Among-append, Contains-Among, found_counted}
+use Rattle.audit_collect.proofs.Members.{Among, Among-append, found_counted}
 use Rattle.audit_run.specs.declared.message.Names.{Names}
 use Rattle.audit_run.specs.declared.message.Outcome.{Outcome}
 use Rattle.audit_run.specs.Names.{answer, answer_to}
 use Rattle.sudo_match.specs.declared.request.Request.{Request}
 use Rattle.audit_run.specs.Arrivals.{arrivals_of}
-use Rattle.audit_run.specs.Asked.{count_listed, counts_of, times_asked}
+use Rattle.audit_run.specs.Asked.{times_asked}
 use Rattle.audit_run.specs.Outcome.{HaveRefused}
 use Rattle.audit_run.specs.Parts.{Stated, run_jobs}
 use Rattle.audit_run.proofs.Counts.{among_flat, closes_below_counted, closes_counted, count_same, jobs_arrivals}
 use Rattle.audit_run.proofs.Counts.{part_arrivals, replies_counted}
-use Rattle.audit_run.proofs.Twice.{Rises, ask_in_two, no_zero}
+use Rattle.audit_run.proofs.Twice.{Rises, no_zero}
 
 -- a source's owner is one of this many senders
 abbrev pub IsOwned : ℕ → ℕ × Stated → Type 0
@@ -48,9 +48,9 @@ close_of s t x (c ∷ counts) (inr m) e = close_of s t x counts m e
 owner_of : (names : Names) (s : ℕ) (x : Arrival) (part : ℕ × Stated) → Among x (part_arrivals names part) → is_of s x ≡ true → part.0 ≡ s
 owner_of names s x (t, Err fault) m e = absurd m
 owner_of names s x (t, Ok requests) m e =
-    elim (Among-append x (map (λ r. Reply (answer_to names t r)) requests.list) (map (λ c. Close t c) (count_listed requests.close)) m) [
+    elim (Among-append x (map (λ r. Reply (answer_to names t r)) requests.list) (map (λ c. Close t c) (option_to_list requests.close)) m) [
       | inl reply ↦ reply_of names s t x requests.list reply e
-      | inr close ↦ close_of s t x (count_listed requests.close) close e
+      | inr close ↦ close_of s t x (option_to_list requests.close) close e
     ]
 
 -- what the arrivals of a run count
@@ -81,20 +81,12 @@ module _ (names : Names) (roster : List (List ℕ)) (workers : ℕ) (parts : Lis
       let none = no_zero s parts rise in
       let some = replies s 0 in
       omega (arith, none, some, h)
-  by_fault (refused.Double s n) h = ask_in_two s n parts rise (subst (λ k. 2 ≤ k) (replies s n) h)
+  by_fault (refused.Double s n) h = subst (λ k. 2 ≤ k) (replies s n) h
   by_fault (refused.ClosedTwice s) h = subst (λ k. 2 ≤ k) (counted names workers parts outcomes all (is_close s)
       ∙ closes_counted names s parts) h
   by_fault (refused.PastClose s n) h =
-      let below = subst (λ k. 1 ≤ k) (counted names workers parts outcomes all (is_close_below s n)
-      ∙ closes_below_counted names s n parts) h.1 in
-      let found = found_counted (λ c. nat_lt c n) (counts_of s parts) below in
-      let test = found.passes in
-      record {
-        asked = subst (λ k. 1 ≤ k) (replies s n) h.0;
-        count = found.item;
-        closed = Contains-Among found.item (counts_of s parts) found.member;
-        past = grind (arith, nat_tests);
-      }
+      let below = counted names workers parts outcomes all (is_close_below s n) ∙ closes_below_counted names s n parts in
+      (subst (λ k. 1 ≤ k) (replies s n) h.0, subst (λ k. 1 ≤ k) below h.1)
   by_fault refused.Memory h = h
 
   -- the refusal of a run names a fault of its sources

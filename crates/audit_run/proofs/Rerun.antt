@@ -11,9 +11,8 @@ use Rattle.audit_files.specs.declared.fault.FileFault.{FileFault}
 use Rattle.audit_run.specs.declared.fault.AuditFault.{AuditFault}
 use Rattle.audit_run.specs.declared.fault.AuditFault.TheVariants.{Sender, Collect, NoThread, Memory, TooManyParts}
 use Rattle.audit_run.specs.declared.message.Names.{Names}
-use Rattle.audit_run.specs.IsAuditResult.{IsOutcome, NoneRefused, IsRunOutcome}
+use Rattle.audit_run.specs.IsAuditResult.{IsOutcome, IsRunResult, NoneRefused}
 use Rattle.audit_run.specs.Parts.{AreRead, Stated, faults_of, parts_by_owner}
-use Rattle.audit_run.specs.Passes.{PassView}
 use Rattle.audit_run.specs.Roster.{roster}
 use Rattle.audit_run.specs.Shards.{AreDisjoint, AreShards, IsJoined, IsNoneOfSources, MayReturn, joined_report, names_of_sources, told_of}
 use Rattle.audit_run.proofs.WholeSources.{one_report, whole_not_lacking, whole_not_refused}
@@ -97,41 +96,36 @@ module _ (names : Names) (sources : List (List ℕ × Ahead)) (states : List Sta
 
   one_returned : (whole : Report) → MayReturn names sources (Ok whole) → whole ≡ report
   one_returned whole returned =
-      let run : IsRunOutcome names (names_of_sources sources) (told_of sources) returned.workers returned.old
-      returned.new (Ok whole) = returned.audited in
+      let run : IsRunResult names (names_of_sources sources) (told_of sources) (Ok whole) = returned in
       let own = run.outcome in
       let made = outcome_of run.states run.read own.0 in
       one_report names (roster (names_of_sources sources)) (parts_by_owner (names_of_sources sources) run.states)
       own.1 whole report own.2 made.2
 
-  no_fault_ran : (fault : AuditFault) (workers : ℕ) (old new : PassView)
-      → IsRunOutcome names (names_of_sources sources) (told_of sources) workers old new (Err fault) → IsNoneOfSources fault
-  no_fault_ran (Sender name part why) workers old new run =
+  no_fault_ran : (fault : AuditFault) → IsRunResult names (names_of_sources sources) (told_of sources) (Err fault) → IsNoneOfSources fault
+  no_fault_ran (Sender name part why) run =
       let (index, is_first, of_file, named, part_is) = run.outcome in
       not_refused sources run.states states run.read read outcome.0 index why of_file is_first.there
-  no_fault_ran (Collect (collect.Roster why)) workers old new run = tt
-  no_fault_ran (Collect (collect.Refused why)) workers old new run =
+  no_fault_ran (Collect (collect.Roster why)) run = tt
+  no_fault_ran (Collect (collect.Refused why)) run =
       let own = run.outcome in
       let made = outcome_of run.states run.read own.0 in
       whole_not_refused (length (roster (names_of_sources sources)))
       (parts_by_owner (names_of_sources sources) run.states) why (all_owned (names_of_sources sources) run.states) made.1 own.1
-  no_fault_ran (Collect (collect.Unfinished what)) workers old new run =
+  no_fault_ran (Collect (collect.Unfinished what)) run =
       let own = run.outcome in
       let made = outcome_of run.states run.read own.0 in
       whole_not_lacking (length (roster (names_of_sources sources)))
       (parts_by_owner (names_of_sources sources) run.states) what made.1 own.1
-  no_fault_ran NoThread workers old new run = tt
-  no_fault_ran Memory workers old new run = tt
-  no_fault_ran TooManyParts workers old new run = tt
+  no_fault_ran NoThread run = tt
+  no_fault_ran Memory run = tt
+  no_fault_ran TooManyParts run = tt
 
   no_fault_returned : (fault : AuditFault) → MayReturn names sources (Err fault) → IsNoneOfSources fault
-  no_fault_returned (Sender name part why) returned =
-      no_fault_ran (Sender name part why) returned.workers returned.old returned.new returned.audited
+  no_fault_returned (Sender name part why) returned = no_fault_ran (Sender name part why) returned
   no_fault_returned (Collect (collect.Roster why)) returned = tt
-  no_fault_returned (Collect (collect.Refused why)) returned =
-      no_fault_ran (Collect (collect.Refused why)) returned.workers returned.old returned.new returned.audited
-  no_fault_returned (Collect (collect.Unfinished what)) returned =
-      no_fault_ran (Collect (collect.Unfinished what)) returned.workers returned.old returned.new returned.audited
+  no_fault_returned (Collect (collect.Refused why)) returned = no_fault_ran (Collect (collect.Refused why)) returned
+  no_fault_returned (Collect (collect.Unfinished what)) returned = no_fault_ran (Collect (collect.Unfinished what)) returned
   no_fault_returned NoThread returned = tt
   no_fault_returned Memory returned = tt
   no_fault_returned TooManyParts returned = tt
@@ -146,11 +140,11 @@ module _ (names : Names) (first second : List (List ℕ × Ahead)) (apart : AreD
 
   -- two audits that return reports: what both lists state has the joined report
   module _ (report other : Report) (is : MayReturn names first (Ok report)) (also : MayReturn names second (Ok other)) where
-    ran : IsRunOutcome names (names_of_sources first) (told_of first) is.workers is.old is.new (Ok report)
-    ran = is.audited
+    ran : IsRunResult names (names_of_sources first) (told_of first) (Ok report)
+    ran = is
 
-    ran_also : IsRunOutcome names (names_of_sources second) (told_of second) also.workers also.old also.new (Ok other)
-    ran_also = also.audited
+    ran_also : IsRunResult names (names_of_sources second) (told_of second) (Ok other)
+    ran_also = also
 
     read : AreRead (told_of (first ++ second)) (ran.states ++ ran_also.states)
     read = read_joined first second ran.states ran_also.states ran.read ran_also.read
@@ -171,8 +165,8 @@ module _ (names : Names) (first second : List (List ℕ × Ahead)) (apart : AreD
 
   -- an audit of both that returns a report: what each list states has one
   module _ (whole : Report) (is : MayReturn names (first ++ second) (Ok whole)) where
-    ran_both : IsRunOutcome names (names_of_sources (first ++ second)) (told_of (first ++ second)) is.workers is.old is.new (Ok whole)
-    ran_both = is.audited
+    ran_both : IsRunResult names (names_of_sources (first ++ second)) (told_of (first ++ second)) (Ok whole)
+    ran_both = is
 
     in_two : ReadInTwo first second ran_both.states
     in_two = read_in_two first second ran_both.states ran_both.read

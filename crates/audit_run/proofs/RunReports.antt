@@ -1,6 +1,7 @@
 -- The report of a run is that of its sources.
 use Rattle.std.proofs.Common.{◌≡◌, ◌⊎◌, ℕ, zero, suc, ◌+◌, cond, ◌==◌, List, [], ◌∷◌, ◌++◌, length, map, Some, Ok}
 use Rattle.std.proofs.Common.{Err, slice_get, IsPermutation, sym, ap, subst, ◌∙◌, refl, inl, inr, arith}
+use Rattle.std.specs.Prelude.{option_to_list}
 use Rattle.std.proofs.lemmas.List.Sorted.{IsPermutation-sym}
 use Rattle.std.proofs.lemmas.Option.{same_Some, slice_get_within}
 use Rattle.std.specs.List.{Contains}
@@ -19,7 +20,7 @@ use Rattle.audit_run.specs.declared.message.Outcome.{Outcome}
 use Rattle.audit_run.specs.Names.{answer, answer_to}
 use Rattle.sudo_match.specs.declared.request.Request.{Request}
 use Rattle.audit_run.specs.Arrivals.{arrivals_of}
-use Rattle.audit_run.specs.Asked.{asked_of, count_listed, counts_in, counts_of, values_of_sender, requests_stated}
+use Rattle.audit_run.specs.Asked.{asked_of, counts_in, counts_of, values_of_sender, requests_stated}
 use Rattle.audit_run.specs.Outcome.{IsReport, IsRow}
 use Rattle.audit_run.specs.Parts.{Stated, run_jobs}
 use Rattle.audit_run.proofs.Counts.{AmongOf, among_flat, among_same, flat_among, jobs_arrivals, part_arrivals}
@@ -119,9 +120,9 @@ part-replied : (names : Names) (part : ℕ × Stated) (a : Answer) → Among (Re
 part-replied names (t, Err fault) a m = absurd m
 part-replied names (t, Ok requests) a m =
     elim (Among-append (Reply a) (map (λ r. Reply (answer_to names t r)) requests.list)
-    (map (λ c. Close t c) (count_listed requests.close)) m) [
+    (map (λ c. Close t c) (option_to_list requests.close)) m) [
       | inl reply ↦ replied names t requests.list a reply
-      | inr close ↦ absurd (no_reply_among t a (count_listed requests.close) close)
+      | inr close ↦ absurd (no_reply_among t a (option_to_list requests.close) close)
     ]
 
 part-closed : (names : Names) (part : ℕ × Stated) (s c : ℕ) → Among (Close s c) (part_arrivals names part)
@@ -129,9 +130,9 @@ part-closed : (names : Names) (part : ℕ × Stated) (s c : ℕ) → Among (Clos
 part-closed names (t, Err fault) s c m = absurd m
 part-closed names (t, Ok requests) s c m =
     elim (Among-append (Close s c) (map (λ r. Reply (answer_to names t r)) requests.list)
-    (map (λ n. Close t n) (count_listed requests.close)) m) [
+    (map (λ n. Close t n) (option_to_list requests.close)) m) [
       | inl reply ↦ absurd (no_close_among names t s c requests.list reply)
-      | inr close ↦ close_listed t s c (count_listed requests.close) close
+      | inr close ↦ close_listed t s c (option_to_list requests.close) close
     ]
 
 module _ (names : Names) (roster : List (List ℕ)) (workers : ℕ) (parts : List (ℕ × Stated)) (outcomes : List Outcome)

@@ -1,9 +1,9 @@
 -- Whole sources have no fault, and one report.
-use Rattle.std.proofs.Common.{◌≡◌, ◌⊎◌, ℕ, zero, suc, ◌+◌, ◌≤◌, ◌<◌, true, cond, ◌==◌, List, [], ◌∷◌, ◌++◌, length}
-use Rattle.std.proofs.Common.{flat_map, Some, slice_get, count_by, All, sym, ap, subst, ◌∙◌, refl, inl, inr, arith}
+use Rattle.std.proofs.Common.{◌≡◌, ◌⊎◌, ℕ, zero, suc, ◌+◌, ◌≤◌, ◌<◌, Bool, true, false, cond, ◌==◌, List, [], ◌∷◌, ◌++◌, length}
+use Rattle.std.proofs.Common.{flat_map, Some, slice_get, count_by, nat_lt, All, sym, ap, subst, ◌∙◌, refl, inl, inr, arith}
+use Rattle.std.proofs.lemmas.Bool.Decides.{nat_tests}
 use Rattle.std.proofs.lemmas.List.Elements.{All-head, All-tail}
 use Rattle.std.proofs.lemmas.Option.{same_Some, slice_get_within}
-use Rattle.std.specs.List.{Contains}
 use Rattle.sudo_match.specs.declared.request.Request.{Request}
 use Rattle.audit_collect.specs.declared.arrival.Answer.{Answer}
 use Rattle.audit_collect.specs.declared.fault.Refused.{Refused}
@@ -17,10 +17,10 @@ use Rattle.audit_collect.proofs.Members.{Among, Among-Contains, count_by-cons, c
 use Rattle.audit_run.specs.declared.message.Names.{Names}
 use Rattle.audit_run.specs.Names.{answer_to}
 use Rattle.audit_run.specs.Asked.{asked_of, counts_in, counts_of, has_number, values_of_sender, requests_stated, times_asked}
-use Rattle.audit_run.specs.Outcome.{AreWhole, Asks, HaveRefused, IsReport, IsRow, IsWholeSender, Lack}
+use Rattle.audit_run.specs.Outcome.{AreWhole, HaveRefused, IsReport, IsRow, IsWholeSender, Lack}
 use Rattle.audit_run.specs.Parts.{Stated}
 use Rattle.audit_run.proofs.Refusals.{IsOwned}
-use Rattle.audit_run.proofs.Twice.{here_and_rest, untested}
+use Rattle.audit_run.proofs.Twice.{untested}
 use Rattle.sudo_policy.proofs.FoundLemmas.{same_lists}
 
 -- a sender past the roster has no source
@@ -38,63 +38,30 @@ within_or_past s zero = inr (omega arith)
 within_or_past zero (suc n) = inl (omega arith)
 within_or_past (suc s) (suc n) = elim (within_or_past s n) [ inl less ↦ inl (omega (arith, less)) | inr past ↦ inr (omega (arith, past)) ]
 
--- a source that asks is counted
-asks_counted : (s n : ℕ) (part : ℕ × Stated) → Asks s n part → 1 ≤ count_by (has_number n) (values_of_sender s requests_stated part)
-asks_counted s n part asks = subst (λ b. 1 ≤ count_by (has_number n) (cond b (requests_stated part.1) []))
-    (sym (ap (λ t. t == s) asks.of ∙ self_tested s)) asks.asks
-
-one_counted : (s n : ℕ) (parts : List (ℕ × Stated)) (i : ℕ) (part : ℕ × Stated) → slice_get parts i ≡ Some part
-    → Asks s n part → 1 ≤ times_asked s n parts
-one_counted s n [] i part there asks = absurd (cc)
-one_counted s n (p ∷ parts) zero part there asks =
-    let same = same_Some p part there in
-    let here = subst (λ q. 1 ≤ count_by (has_number n) (values_of_sender s requests_stated q)) (sym same) (asks_counted s n part asks) in
-    let sum = here_and_rest s n p parts in
-    omega (arith, here, sum)
-one_counted s n (p ∷ parts) (suc i) part there asks =
-    let rest = one_counted s n parts i part there asks in
-    let sum = here_and_rest s n p parts in
-    omega (arith, rest, sum)
-
-two_counted : (s n : ℕ) (parts : List (ℕ × Stated)) (i j : ℕ) (a b : ℕ × Stated) → i < j → slice_get parts i ≡ Some a
-    → slice_get parts j ≡ Some b → Asks s n a → Asks s n b → 2 ≤ times_asked s n parts
-two_counted s n [] i j a b less at bt asks bsks = absurd (cc)
-two_counted s n (p ∷ parts) zero zero a b less at bt asks bsks = absurd (omega (arith, less))
-two_counted s n (p ∷ parts) (suc i) zero a b less at bt asks bsks = absurd (omega (arith, less))
-two_counted s n (p ∷ parts) zero (suc j) a b less at bt asks bsks =
-    let same = same_Some p a at in
-    let here = subst (λ q. 1 ≤ count_by (has_number n) (values_of_sender s requests_stated q)) (sym same) (asks_counted s n a asks) in
-    let rest = one_counted s n parts j b bt bsks in
-    let sum = here_and_rest s n p parts in
-    omega (arith, here, rest, sum)
-two_counted s n (p ∷ parts) (suc i) (suc j) a b less at bt asks bsks =
-    let rest = two_counted s n parts i j a b (omega (arith, less)) at bt asks bsks in
-    let sum = here_and_rest s n p parts in
-    omega (arith, rest, sum)
-
 -- a whole sender asks a number once at most
 once_at_most : (s n : ℕ) (parts : List (ℕ × Stated)) → IsWholeSender s parts → times_asked s n parts ≤ 1
-once_at_most s zero parts whole = let none = whole.no_zero in omega (arith, none)
+once_at_most s zero parts whole = let none = whole.no_other 0 (λ low high. omega (arith, low)) in omega (arith, none)
 once_at_most s (suc n) parts whole = elim (within_or_past whole.count (suc n)) [
-  | inl past ↦ let none = whole.none_past (suc n) past in omega (arith, none)
+  | inl past ↦ let none = whole.no_other (suc n) (λ low high. omega (arith, past, high)) in omega (arith, none)
   | inr within ↦ let once = whole.once (suc n) (omega arith) within in omega (arith, once)
 ]
 
-only_count : (s c : ℕ) (parts : List (ℕ × Stated)) (whole : IsWholeSender s parts) → Contains (counts_of s parts) c → c ≡ whole.count
-only_count s c parts whole has =
-    elim (subst (Among c) whole.closed (Among-Contains c (counts_of s parts) has)) [ inl e ↦ sym e | inr never ↦ absurd never ]
+one_below : (count n : ℕ) → 1 ≤ count_by (λ c. nat_lt c n) (count ∷ []) → count < n
+one_below count n h = by (nat_lt count n) refl
+  where
+    by : (b : Bool) → nat_lt count n ≡ b → count < n
+    by true e = grind (arith, nat_tests)
+    by false e =
+        let none = count_by-cons (λ c. nat_lt c n) count [] ∙ ap (λ b. cond b 1 0 + count_by (λ c. nat_lt c n) []) e in
+        absurd (omega (arith, none, h))
 
 -- whole sources have nothing that a collector refuses
 pub whole_not_refused : (senders : ℕ) (parts : List (ℕ × Stated)) (why : Refused) → All (IsOwned senders) parts
     → AreWhole senders parts → HaveRefused parts why → ⊥
-whole_not_refused senders parts (refused.Double s n) all whole h =
-    let twice = two_counted s n parts h.first h.second h.first_part h.second_part h.apart h.first_there h.second_there
-    h.first_asks h.second_asks in
-    elim (within_or_past s senders) [
-      | inl inside ↦ let once = once_at_most s n parts (whole s inside) in omega (arith, once, twice)
-      | inr past ↦ let none = ap (count_by (has_number n)) (none_past requests_stated senders s parts all past) in
-          omega (arith, none, twice)
-    ]
+whole_not_refused senders parts (refused.Double s n) all whole h = elim (within_or_past s senders) [
+  | inl inside ↦ let once = once_at_most s n parts (whole s inside) in omega (arith, once, h)
+  | inr past ↦ let none = ap (count_by (has_number n)) (none_past requests_stated senders s parts all past) in omega (arith, none, h)
+]
 whole_not_refused senders parts (refused.ClosedTwice s) all whole h = elim (within_or_past s senders) [
   | inl inside ↦ let one = ap length (whole s inside).closed in omega (arith, one, h)
   | inr past ↦ let none = ap length (none_past counts_in senders s parts all past) in omega (arith, none, h)
@@ -102,13 +69,13 @@ whole_not_refused senders parts (refused.ClosedTwice s) all whole h = elim (with
 whole_not_refused senders parts (refused.PastClose s n) all whole h = elim (within_or_past s senders) [
   | inl inside ↦
       let sender = whole s inside in
-      let is = only_count s h.count parts sender h.closed in
-      let past = h.past in
-      let asked = h.asked in
-      let none = sender.none_past n (omega (arith, is, past)) in
+      let asked = h.0 in
+      let below = subst (λ l. 1 ≤ count_by (λ c. nat_lt c n) l) sender.closed h.1 in
+      let past = one_below sender.count n below in
+      let none = sender.no_other n (λ low high. omega (arith, past, high)) in
       omega (arith, none, asked)
   | inr past ↦
-      let asked = h.asked in
+      let asked = h.0 in
       let none = ap (count_by (has_number n)) (none_past requests_stated senders s parts all past) in
       omega (arith, none, asked)
 ]

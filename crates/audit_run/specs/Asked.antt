@@ -1,5 +1,5 @@
 -- The requests and the close counts of each sender, over all its sources.
-use Rattle.std.specs.Prelude.{ℕ, Bool, List, [], ◌∷◌, ◌==◌, Option, Some, None, Ok, Err, count_by, flat_map, if◌then◌else◌}
+use Rattle.std.specs.Prelude.{ℕ, Bool, List, [], ◌∷◌, ◌==◌, Ok, Err, count_by, flat_map, if◌then◌else◌, option_to_list}
 use Rattle.sudo_match.specs.declared.request.Request.{Request}
 use Rattle.audit_run.specs.Parts.{Stated}
 
@@ -8,13 +8,9 @@ abbrev pub requests_stated : Stated → List Request
 requests_stated (Ok requests) = requests.list
 requests_stated (Err fault) = []
 
-abbrev pub count_listed : Option ℕ → List ℕ
-count_listed None = []
-count_listed (Some count) = count ∷ []
-
 -- the count of a source's close row, if it has one
 abbrev pub counts_in : Stated → List ℕ
-counts_in (Ok requests) = count_listed requests.close
+counts_in (Ok requests) = option_to_list requests.close
 counts_in (Err fault) = []
 
 -- the values of a source of this sender; none of another's

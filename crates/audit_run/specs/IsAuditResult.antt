@@ -2,7 +2,7 @@
 use Rattle.std.specs.Prelude.{◌≡◌, ℕ, ◌<◌, ◌≤◌, ◌++◌, ⊤, List, map, length, slice_get, Option, Some, None, Result, Ok}
 use Rattle.std.specs.Prelude.{Err, IsPermutation, replicate}
 use Rattle.audit_collect.specs.Complete.{IsReportOf}
-use Rattle.audit_collect.specs.Roster.{IsRoster, most_senders}
+use Rattle.audit_collect.specs.Roster.{most_senders}
 use Rattle.audit_collect.specs.declared.fault.CollectFault.TheVariants as collect
 use Rattle.audit_collect.specs.declared.fault.RosterFault.TheVariants as roster_fault
 use Rattle.audit_collect.specs.declared.report.Report.{Report}
@@ -27,6 +27,10 @@ use Rattle.audit_run.specs.Roster.{part_number, roster}
 abbrev pub most_parts : ℕ
 most_parts = 256
 
+-- no more sources, nor senders, than an audit may have
+abbrev pub AreFew : List (List ℕ) → Type 0
+AreFew sources = (length sources ≤ most_parts) × (length (roster sources) ≤ most_senders)
+
 -- no source is refused
 abbrev pub NoneRefused : List (Option FileFault) → Type 0
 NoneRefused faults = (index : ℕ) (fault : FileFault) → slice_get faults index ≡ Some (Some fault) → ⊥
@@ -49,73 +53,76 @@ NoneOutOfMemory faults = (index : ℕ) → slice_get faults index ≡ Some (Some
 
 -- `Memory` comes before `Sender`: a source is refused only if allocation failed for no source
 abbrev pub MemoryComesFirst : List (Option FileFault) → Result Report AuditFault → Type 0
-MemoryComesFirst faults (Ok report) = ⊤
 MemoryComesFirst faults (Err (Sender name part fault)) = NoneOutOfMemory faults
-MemoryComesFirst faults (Err (Collect fault)) = ⊤
-MemoryComesFirst faults (Err NoThread) = ⊤
-MemoryComesFirst faults (Err Memory) = ⊤
-MemoryComesFirst faults (Err TooManyParts) = ⊤
+MemoryComesFirst faults result = ⊤
 
--- a report is that of the arrivals that the workers put, which are complete
-abbrev pub IsReportOfArrived : List (List ℕ) → List Outcome → Result Report AuditFault → Type 0
-IsReportOfArrived sources outcomes (Ok report) = IsReportOf (roster sources) (arrivals_of outcomes) report
-IsReportOfArrived sources outcomes (Err fault) = ⊤
-
--- the result of an audit of sources with this content: the first source, in their order, that is
--- refused, if one is; else the report, if each sender is whole over all its sources; else what a
--- collector refuses or what is missing; `NoThread` and `Memory` are not constrained
+-- the outcome for sources with this content: the first refused source, in their order; otherwise the
+-- report, if each sender is whole over all its sources; otherwise what a collector refuses or misses;
+-- `NoThread` and `Memory` are not constrained
 abbrev pub IsOutcome : Names → List (List ℕ) → List Stated → Result Report AuditFault → Type 0
 IsOutcome names sources states (Ok report) =
     NoneRefused (faults_of states) × AreWhole (length (roster sources)) (parts_by_owner sources states)
     × IsReport names (roster sources) (parts_by_owner sources states) report
 IsOutcome names sources states (Err (Sender name part fault)) = IsRefusedSource sources (faults_of states) name part fault
-IsOutcome names sources states (Err (Collect (collect.Roster why))) = ⊥
 IsOutcome names sources states (Err (Collect (collect.Refused why))) = NoneRefused (faults_of states)
     × HaveRefused (parts_by_owner sources states) why
 IsOutcome names sources states (Err (Collect (collect.Unfinished what))) = NoneRefused (faults_of states)
     × Lack (length (roster sources)) (parts_by_owner sources states) what
 IsOutcome names sources states (Err NoThread) = ⊤
 IsOutcome names sources states (Err Memory) = ⊤
-IsOutcome names sources states (Err TooManyParts) = ⊥
+IsOutcome names sources states (Err fault) = ⊥
 
--- the threads ran on sources with these names and these bytes ahead, and the result is the outcome
--- of their content; the pass is whole again with nothing left, and has gained the answers of all
--- jobs that were put, one `Stop` for each worker among them, in some order
-pub record IsRunOutcome (names : Names) (sources : List (List ℕ)) (readable_bytes : List (Option Ahead)) (workers : ℕ)
-    (old new : PassView) (result : Result Report AuditFault) : Type 0 where
-  pub few : length sources ≤ most_parts
-  pub is_roster : IsRoster (roster sources)
+-- the result of threads that ran on sources with these names and these bytes ahead: the outcome of
+-- their content
+pub record IsRunResult (names : Names) (sources : List (List ℕ)) (readable_bytes : List (Option Ahead))
+    (result : Result Report AuditFault) : Type 0 where
+  pub few : AreFew sources
   pub states : List Stated
   pub read : AreRead readable_bytes states
+  pub outcome : IsOutcome names sources states result
+  pub memory_first : MemoryComesFirst (faults_of states) result
+
+-- the result of an audit of these sources: too many of them, or of their senders, are refused before
+-- any thread starts; `NoThread` is returned only if they are few
+abbrev pub IsResult : Names → List (List ℕ) → List (Option Ahead) → Result Report AuditFault → Type 0
+IsResult names sources readable_bytes (Err TooManyParts) = most_parts < length sources
+IsResult names sources readable_bytes (Err (Collect (collect.Roster roster_fault.TooManySenders))) =
+    (length sources ≤ most_parts) × (most_senders < length (roster sources))
+IsResult names sources readable_bytes (Err NoThread) = AreFew sources
+IsResult names sources readable_bytes (Err Memory) = ⊤
+IsResult names sources readable_bytes result = IsRunResult names sources readable_bytes result
+
+-- a report is that of the arrivals that the workers put, which are complete
+abbrev pub IsReportOfArrived : List (List ℕ) → List Outcome → Result Report AuditFault → Type 0
+IsReportOfArrived sources outcomes (Ok report) = IsReportOf (roster sources) (arrivals_of outcomes) report
+IsReportOfArrived sources outcomes (Err fault) = ⊤
+
+-- what the pass of a run has gained: the answers to all jobs that sources with this content put, one
+-- `Stop` for each worker among them, in some order; it is whole again, with nothing left
+pub record HasGained (names : Names) (sources : List (List ℕ)) (states : List Stated) (workers : ℕ)
+    (old new : PassView) (result : Result Report AuditFault) : Type 0 where
   pub put : List Job
   pub have_put : HavePut (parts_by_owner sources states) put
   pub outcomes : List Outcome
   pub gained : new.outcomes_taken ≡ old.outcomes_taken ++ outcomes
   pub all : IsPermutation (map (answer names) (replicate workers Stop ++ put)) outcomes
-  pub outcome : IsOutcome names sources states result
-  pub memory_first : MemoryComesFirst (faults_of states) result
   pub arrived : IsReportOfArrived sources outcomes result
   pub whole : IsOnlyPass new
   pub same_handoff : new.handoff ≡ old.handoff
   pub same_names : new.names ≡ old.names
   pub empty : IsEmpty new
 
--- faults of the roster are returned before any thread starts, with the pass unchanged; `NoThread`
--- only if the roster has none; the pass is unspecified after `NoThread` and `Memory`
+-- how an audit with this result leaves its pass: as it was, if it started no thread; with what the
+-- run gained; unspecified after `NoThread` and `Memory`
+abbrev pub LeavesPass : (names : Names) (sources : List (List ℕ)) (readable_bytes : List (Option Ahead)) → ℕ → PassView → PassView
+    → (result : Result Report AuditFault) → IsResult names sources readable_bytes result → Type 0
+LeavesPass names sources readable_bytes workers old new (Err TooManyParts) is = new ≡ old
+LeavesPass names sources readable_bytes workers old new (Err (Collect (collect.Roster roster_fault.TooManySenders))) is = new ≡ old
+LeavesPass names sources readable_bytes workers old new (Err NoThread) is = ⊤
+LeavesPass names sources readable_bytes workers old new (Err Memory) is = ⊤
+LeavesPass names sources readable_bytes workers old new result is = HasGained names sources is.states workers old new result
+
+-- the result of an audit, and its effect on the pass
 abbrev pub IsAuditResult : Names → List (List ℕ) → List (Option Ahead) → ℕ → PassView → PassView → Result Report AuditFault → Type 0
-IsAuditResult names sources readable_bytes workers old new (Ok report) =
-    IsRunOutcome names sources readable_bytes workers old new (Ok report)
-IsAuditResult names sources readable_bytes workers old new (Err (Sender name part fault)) =
-    IsRunOutcome names sources readable_bytes workers old new (Err (Sender name part fault))
-IsAuditResult names sources readable_bytes workers old new (Err (Collect (collect.Roster roster_fault.Memory))) = ⊥
-IsAuditResult names sources readable_bytes workers old new
-    (Err (Collect (collect.Roster roster_fault.TooManySenders))) = (length sources ≤ most_parts)
-    × (most_senders < length (roster sources)) × (new ≡ old)
-IsAuditResult names sources readable_bytes workers old new (Err (Collect (collect.Roster (roster_fault.SenderTwice name)))) = ⊥
-IsAuditResult names sources readable_bytes workers old new (Err (Collect (collect.Refused why))) =
-    IsRunOutcome names sources readable_bytes workers old new (Err (Collect (collect.Refused why)))
-IsAuditResult names sources readable_bytes workers old new (Err (Collect (collect.Unfinished what))) =
-    IsRunOutcome names sources readable_bytes workers old new (Err (Collect (collect.Unfinished what)))
-IsAuditResult names sources readable_bytes workers old new (Err NoThread) = (length sources ≤ most_parts) × IsRoster (roster sources)
-IsAuditResult names sources readable_bytes workers old new (Err Memory) = ⊤
-IsAuditResult names sources readable_bytes workers old new (Err TooManyParts) = (most_parts < length sources) × (new ≡ old)
+IsAuditResult names sources readable_bytes workers old new result =
+    (is : IsResult names sources readable_bytes result) × LeavesPass names sources readable_bytes workers old new result is

@@ -1,10 +1,10 @@
 -- The faults of the sources of an audit, when they are whole, and their report.
-use Rattle.std.specs.Prelude.{◌≡◌, ℕ, ◌+◌, ◌<◌, ◌≤◌, List, [], ◌∷◌, Some, slice_get, length, count_by}
+use Rattle.std.specs.Prelude.{◌≡◌, ℕ, ◌+◌, ◌<◌, ◌≤◌, List, [], ◌∷◌, Some, slice_get, length, count_by, nat_lt}
 use Rattle.std.specs.List.{Contains}
 use Rattle.sudo_match.specs.declared.request.Request.{Request}
 use Rattle.audit_collect.specs.declared.arrival.Answer.{Answer}
 use Rattle.audit_collect.specs.declared.fault.Refused.{Refused}
-use Rattle.audit_collect.specs.declared.fault.Refused.TheVariants.{Stranger, ZeroNumber, Double, ClosedTwice, PastClose, Memory}
+use Rattle.audit_collect.specs.declared.fault.Refused.TheVariants.{ClosedTwice, Double, PastClose}
 use Rattle.audit_collect.specs.declared.fault.Unfinished.{Unfinished}
 use Rattle.audit_collect.specs.declared.fault.Unfinished.TheVariants.{Open, Gap}
 use Rattle.audit_collect.specs.declared.report.Report.{Report}
@@ -20,47 +20,21 @@ pub record IsWholeSender (sender : ℕ) (parts : List (ℕ × Stated)) : Type 0 
   pub count : ℕ
   pub closed : counts_of sender parts ≡ count ∷ []
   pub once : (number : ℕ) → 1 ≤ number → number ≤ count → times_asked sender number parts ≡ 1
-  pub no_zero : times_asked sender 0 parts ≡ 0
-  pub none_past : (number : ℕ) → count < number → times_asked sender number parts ≡ 0
+  pub no_other : (number : ℕ) → (1 ≤ number → number ≤ count → ⊥) → times_asked sender number parts ≡ 0
 
 -- each of this many senders is whole
 abbrev pub AreWhole : ℕ → List (ℕ × Stated) → Type 0
 AreWhole senders parts = (sender : ℕ) → sender < senders → IsWholeSender sender parts
 
--- the source is the sender's, and asks for the number
-pub record Asks (sender number : ℕ) (part : ℕ × Stated) : Type 0 where
-  pub of : part.0 ≡ sender
-  pub asks : 1 ≤ count_by (has_number number) (requests_stated part.1)
-
--- two different sources of the sender ask for the number
-pub record AskInTwo (sender number : ℕ) (parts : List (ℕ × Stated)) : Type 0 where
-  pub first : ℕ
-  pub second : ℕ
-  pub apart : first < second
-  pub first_part : ℕ × Stated
-  pub second_part : ℕ × Stated
-  pub first_there : slice_get parts first ≡ Some first_part
-  pub second_there : slice_get parts second ≡ Some second_part
-  pub first_asks : Asks sender number first_part
-  pub second_asks : Asks sender number second_part
-
--- the sender asks for a number that exceeds the count of one of its close marks
-pub record IsPast (sender number : ℕ) (parts : List (ℕ × Stated)) : Type 0 where
-  pub asked : 1 ≤ times_asked sender number parts
-  pub count : ℕ
-  pub closed : Contains (counts_of sender parts) count
-  pub past : count < number
-
--- the sources have the fault that the collector refuses: a number in two sources of one sender, two
--- close marks, or a number past one; they have no stranger and no number 0, and out of memory is no
--- fault of theirs
+-- the sources have the fault that the collector refuses: a number twice of one sender, two close
+-- marks, or a number past one; they have no stranger and no number 0, and out of memory is no fault
+-- of theirs
 abbrev pub HaveRefused : List (ℕ × Stated) → Refused → Type 0
-HaveRefused parts (Double sender number) = AskInTwo sender number parts
+HaveRefused parts (Double sender number) = 2 ≤ times_asked sender number parts
 HaveRefused parts (ClosedTwice sender) = 2 ≤ length (counts_of sender parts)
-HaveRefused parts (PastClose sender number) = IsPast sender number parts
-HaveRefused parts (Stranger sender) = ⊥
-HaveRefused parts (ZeroNumber sender) = ⊥
-HaveRefused parts Memory = ⊥
+HaveRefused parts (PastClose sender number) =
+    (1 ≤ times_asked sender number parts) × (1 ≤ count_by (λ count. nat_lt count number) (counts_of sender parts))
+HaveRefused parts refused = ⊥
 
 -- the sender has one close mark, and this is the least number from 1 to its count that it does not
 -- ask for
@@ -91,3 +65,20 @@ pub record IsRow (names : Names) (roster : List (List ℕ)) (parts : List (ℕ �
 pub record IsReport (names : Names) (roster : List (List ℕ)) (parts : List (ℕ × Stated)) (report : Report) : Type 0 where
   pub one_each : length report.senders ≡ length roster
   pub rows : (sender : ℕ) (row : SenderReport) → slice_get report.senders sender ≡ Some row → IsRow names roster parts sender row
+
+-- the source is the sender's, and asks for the number
+pub record Asks (sender number : ℕ) (part : ℕ × Stated) : Type 0 where
+  pub of : part.0 ≡ sender
+  pub asks : 1 ≤ count_by (has_number number) (requests_stated part.1)
+
+-- two different sources of the sender ask for the number
+pub record AskInTwo (sender number : ℕ) (parts : List (ℕ × Stated)) : Type 0 where
+  pub first : ℕ
+  pub second : ℕ
+  pub apart : first < second
+  pub first_part : ℕ × Stated
+  pub second_part : ℕ × Stated
+  pub first_there : slice_get parts first ≡ Some first_part
+  pub second_there : slice_get parts second ≡ Some second_part
+  pub first_asks : Asks sender number first_part
+  pub second_asks : Asks sender number second_part

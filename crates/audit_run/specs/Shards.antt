@@ -15,9 +15,8 @@ use Rattle.audit_files.specs.Feeding.{Ahead}
 use Rattle.audit_run.specs.declared.fault.AuditFault.{AuditFault}
 use Rattle.audit_run.specs.declared.fault.AuditFault.TheVariants.{Sender, Collect, NoThread, Memory, TooManyParts}
 use Rattle.audit_run.specs.declared.message.Names.{Names}
-use Rattle.audit_run.specs.IsAuditResult.{IsAuditResult, IsOutcome}
+use Rattle.audit_run.specs.IsAuditResult.{IsOutcome, IsResult}
 use Rattle.audit_run.specs.Parts.{Stated}
-use Rattle.audit_run.specs.Passes.{PassView}
 use Rattle.audit_run.specs.Roster.{roster}
 
 -- no name is in both lists
@@ -91,11 +90,8 @@ told_of sources = map (λ source. Some source.1) sources
 
 -- an audit of these sources, each given as a name and the bytes ahead of its reader, may return this result in some run
 -- of its threads
-pub record MayReturn (names : Names) (sources : List (List ℕ × Ahead)) (result : Result Report AuditFault) : Type 0 where
-  pub workers : ℕ
-  pub old : PassView
-  pub new : PassView
-  pub audited : IsAuditResult names (names_of_sources sources) (told_of sources) workers old new result
+abbrev pub MayReturn : Names → List (List ℕ × Ahead) → Result Report AuditFault → Type 0
+MayReturn names sources result = IsResult names (names_of_sources sources) (told_of sources) result
 
 -- the fault is of no source: an allocation or a thread was refused, or there are too many sources or senders
 abbrev pub IsNoneOfSources : AuditFault → Type 0

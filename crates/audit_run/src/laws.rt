@@ -1,10 +1,11 @@
 //! Laws of the outcome of an audit of sources. The functions have empty bodies: each contract is a law.
-ghost use Rattle.std.specs.Prelude.{◌≡◌, ◌++◌, ℕ, List, Option, Ok, Err, length, map};
+ghost use Rattle.std.specs.Prelude.{◌≡◌, ◌++◌, ℕ, List, Option, Result, Ok, Err, length, map};
 ghost use Rattle.std.specs.List.Sorted.{IsPermutation};
 ghost use Rattle.audit_collect.specs.Finished.{AllFinished, IsFirstMissing, report_of};
 ghost use Rattle.audit_collect.specs.SenderState.{SenderState, after, start};
 ghost use Rattle.audit_collect.specs.Roster.{AreDistinct};
 ghost use Rattle.audit_collect.specs.declared.fault.Refused.{Refused};
+ghost use Rattle.audit_collect.specs.declared.fault.Refused.TheVariants.{Double};
 ghost use Rattle.audit_collect.specs.declared.fault.Unfinished.{Unfinished};
 ghost use Rattle.audit_collect.specs.declared.report.Report.{Report};
 ghost use Rattle.audit_files.specs.Feeding.{Ahead};
@@ -16,9 +17,10 @@ ghost use Rattle.audit_run.specs.declared.message.Outcome.{Outcome};
 ghost use Rattle.audit_run.specs.declared.fault.AuditFault.{AuditFault};
 ghost use Rattle.audit_run.specs.declared.fault.AuditFault.TheVariants.{Sender};
 ghost use Rattle.audit_run.specs.Arrivals.{arrivals_of};
-ghost use Rattle.audit_run.specs.IsAuditResult.{IsOutcome, NoneRefused};
-ghost use Rattle.audit_run.specs.Outcome.{AreWhole, HaveRefused, IsReport, Lack};
+ghost use Rattle.audit_run.specs.IsAuditResult.{IsAuditResult, IsOutcome, IsResult, NoneRefused};
+ghost use Rattle.audit_run.specs.Outcome.{AreWhole, AskInTwo, HaveRefused, IsReport, Lack};
 ghost use Rattle.audit_run.specs.Parts.{AreRead, Stated, faults_of, parts_by_owner, run_jobs};
+ghost use Rattle.audit_run.specs.Passes.{IsEmpty, IsOnlyPass, PassView};
 ghost use Rattle.audit_run.specs.Roster.{roster};
 ghost use Rattle.audit_run.specs.Shards.{AreDisjoint, AreShards, IsJoined, IsNoneOfSources, IsOfEither, MayReturn};
 ghost use Rattle.audit_run.specs.Shards.{fault_after, joined_report, names_of_sources};
@@ -32,6 +34,14 @@ pub fn refusals_are_of_sources()
         (map (answer names) (run_jobs workers (parts_by_owner sources states))) outcomes
         → after (start (roster sources)) (arrivals_of outcomes) ≡ Err why
         → HaveRefused (parts_by_owner sources states) why }
+{}
+
+/// If a sender asks for a number twice, two of its sources ask for it: within a source, the numbers rise.
+pub fn doubles_are_of_two_sources()
+    ensures { (sources : List (List ℕ)) (readable_bytes : List (Option Ahead))
+        (states : List Stated) (sender : ℕ) (number : ℕ) → AreRead readable_bytes states
+        → HaveRefused (parts_by_owner sources states) (Double sender number)
+        → AskInTwo sender number (parts_by_owner sources states) }
 {}
 
 /// The sources lack the first thing that is missing after all arrivals, whatever the order of the answers to all jobs
@@ -74,6 +84,16 @@ pub fn whole_sources_have_one_report()
         (other : Report) → AreWhole (length (roster sources)) (parts_by_owner sources states)
         → IsReport names (roster sources) (parts_by_owner sources states) report
         → IsReport names (roster sources) (parts_by_owner sources states) other → report ≡ other }
+{}
+
+/// Each result that an audit may return, an audit by any number of workers may return, from any whole pass with nothing
+/// left: no result tells of the workers, nor of the order of their answers.
+pub fn results_are_of_any_workers()
+    ensures { (names : Names) (sources : List (List ℕ)) (readable_bytes : List (Option Ahead))
+        (workers : ℕ) (old : PassView) (result : Result Report AuditFault)
+        → IsOnlyPass old → IsEmpty old → IsResult names sources readable_bytes result
+        → (new : PassView)
+        × IsAuditResult names sources readable_bytes workers old new result }
 {}
 
 /// The roster of sources has no name twice.

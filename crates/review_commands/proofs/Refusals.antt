@@ -15,7 +15,7 @@ use Rattle.sudo_grammar.specs.declared.kind.Kind.{Kind}
 use Rattle.std.proofs.lemmas.Bool.{true≢false}
 use Rattle.audit_files.specs.Requests.{is_command}
 use Rattle.review_commands.specs.Body.Paths.{LackCommand, LackPair, LackPaths}
-use Rattle.review_commands.specs.Words.{AsksNothing, HavePair, HavePaths, kind_word}
+use Rattle.review_commands.specs.Words.{AsksNothing, HavePair, HavePaths, fits_hostname, kind_word}
 
 -- names that differ
 apart : (a b : Text) → bytes_eq a a ≡ true → bytes_eq a b ≡ false → a ≡ b → ⊥
@@ -46,6 +46,20 @@ no_name name rows check expand cautions report grants compare roots subjects rul
 no_name name rows check expand cautions report grants compare roots subjects rules who (Subjects paths) stated fit = subjects stated.0
 no_name name rows check expand cautions report grants compare roots subjects rules who (Rules paths workers senders) stated fit =
     rules stated.0
+
+-- the host name is invalid
+pub of_bad_hostname : (name : Text) (rows : List Row) → fits_hostname (first_of (codes "hostname") rows) ≡ false → AsksNothing (name, rows)
+of_bad_hostname name rows bad (Check policy) stated fit = true≢false (sym stated.1.hostname_fits ∙ bad)
+of_bad_hostname name rows bad (Expand policy kind alias) stated fit = true≢false (sym stated.1.hostname_fits ∙ bad)
+of_bad_hostname name rows bad (Cautions policy links without) stated fit = true≢false (sym stated.1.hostname_fits ∙ bad)
+of_bad_hostname name rows bad (Report paths workers senders) stated fit = true≢false (sym stated.1.policy_is.hostname_fits ∙ bad)
+of_bad_hostname name rows bad (Grants paths user host) stated fit = true≢false (sym stated.1.policy_is.hostname_fits ∙ bad)
+of_bad_hostname name rows bad (Who paths command arguments runas) stated fit = true≢false (sym stated.1.policy_is.hostname_fits ∙ bad)
+of_bad_hostname name rows bad (Compare paths user host) stated fit = true≢false (sym stated.1.hostname_fits ∙ bad)
+of_bad_hostname name rows bad (Changes paths senders) stated fit = true≢false (sym stated.1.hostname_fits ∙ bad)
+of_bad_hostname name rows bad (Roots paths all) stated fit = true≢false (sym stated.1.policy_is.hostname_fits ∙ bad)
+of_bad_hostname name rows bad (Subjects paths) stated fit = true≢false (sym stated.1.policy_is.hostname_fits ∙ bad)
+of_bad_hostname name rows bad (Rules paths workers senders) stated fit = true≢false (sym stated.1.policy_is.hostname_fits ∙ bad)
 
 pub check_without_file : (rows : List Row) → first_of (codes "file") rows ≡ None → AsksNothing (codes "check", rows)
 check_without_file rows none (Check policy) stated fit = none_there _ _ none stated.1.file_is

@@ -13,7 +13,7 @@ use Rattle.review_commands.specs.Words.{AsksNothing, HoldsCommand, IsErrorOfWord
 use Rattle.run_base.specs.Arguments.{IsUnaskedKind}
 use Rattle.review_commands.specs.declared.request.Asked.{Asked}
 use Rattle.review_commands.specs.declared.words.Unasked.{Unasked}
-use Rattle.review_commands.specs.declared.words.Unasked.TheVariants.{BadClass, BadCommand, BadKind, Missing, Memory, Scoped}
+use Rattle.review_commands.specs.declared.words.Unasked.TheVariants.{BadClass, BadCommand, BadHostname, BadKind, Missing, Memory, Scoped}
 
 -- a subcommand by its name and its rows
 pub by_parts : {Z : Type 0} (s : Option (Box SubCommand Z)) (name : Text) (rows : List Row)
@@ -60,6 +60,9 @@ refused_by words e BadKind o read memory kinds nothing =
     inr (inr (kinds other, λ p is. nothing other p (sym read ∙ is)))
 refused_by words e BadCommand o read memory kinds nothing =
     let other : BadCommand ≢ Memory = λ same. cc in
+    inr (inr (kinds other, λ p is. nothing other p (sym read ∙ is)))
+refused_by words e BadHostname o read memory kinds nothing =
+    let other : BadHostname ≢ Memory = λ same. cc in
     inr (inr (kinds other, λ p is. nothing other p (sym read ∙ is)))
 refused_by words e Scoped o read memory kinds nothing =
     let other : Scoped ≢ Memory = λ same. cc in

@@ -6,6 +6,7 @@ use Rattle.clap.specs.declared.error.Error.{Error}
 use Rattle.clap.specs.declared.builder.action.ArgAction.TheVariants.{Append, SetTrue}
 use Rattle.review_cautions.specs.Classes.{class_name}
 use Rattle.run_base.specs.Arguments.{IsErrorFor, IsNumberIn, required_option, required_word, senders_rule, workers_rule}
+use Rattle.review_texts.specs.Hostnames.{is_hostname}
 use Rattle.review_commands.specs.declared.request.Asked.{Asked}
 use Rattle.review_commands.specs.declared.request.PairPaths.{PairPaths}
 use Rattle.review_commands.specs.declared.request.Paths.{Paths}
@@ -32,9 +33,14 @@ root_rule = name_rule (codes "root")
 abbrev pub netgroups_rule : Rule
 netgroups_rule = name_rule (codes "netgroups")
 
--- NAME FILE [--root DIR] [--netgroups F]
+-- --hostname NAME
+abbrev pub hostname_rule : Rule
+hostname_rule = name_rule (codes "hostname")
+
+-- NAME FILE [--root DIR] [--netgroups F] [--hostname NAME]
 abbrev pub policy_app : Text → App
-policy_app name = with_rule (with_rule (with_rule (new_app name) (required_word (codes "file"))) root_rule) netgroups_rule
+policy_app name = with_rule (with_rule (with_rule (with_rule (new_app name) (required_word (codes "file"))) root_rule) netgroups_rule)
+    hostname_rule
 
 -- the word of a kind of alias
 abbrev pub kind_word : Kind → Text
@@ -43,33 +49,33 @@ kind_word kind.Runas = codes "runas"
 kind_word kind.Host = codes "host"
 kind_word kind.Cmnd = codes "cmnd"
 
--- expand FILE KIND NAME [--root DIR] [--netgroups F]
+-- expand FILE KIND NAME [--root DIR] [--netgroups F] [--hostname NAME]
 abbrev pub expand_app : App
 expand_app = with_rule (with_rule (policy_app (codes "expand")) (required_word (codes "kind"))) (required_word (codes "name"))
 
--- cautions FILE [--root DIR] [--netgroups F] [--links F] [--without CLASS]...
+-- cautions FILE [--root DIR] [--netgroups F] [--hostname NAME] [--links F] [--without CLASS]...
 abbrev pub cautions_app : App
 cautions_app = with_rule (with_rule (policy_app (codes "cautions")) (name_rule (codes "links"))) without_rule
 
--- NAME FILE [--root DIR] [--netgroups F] --users F --hosts F
+-- NAME FILE [--root DIR] [--netgroups F] [--hostname NAME] --users F --hosts F
 abbrev pub paths_app : Text → App
 paths_app name = with_rule (with_rule (policy_app name) (required_option (codes "users"))) (required_option (codes "hosts"))
 
--- grants FILE [--root DIR] [--netgroups F] --users F --hosts F [--user NAME] [--host NAME]
+-- grants FILE [--root DIR] [--netgroups F] [--hostname NAME] --users F --hosts F [--user NAME] [--host NAME]
 abbrev pub grants_app : App
 grants_app = with_rule (with_rule (paths_app (codes "grants")) (name_rule (codes "user"))) (name_rule (codes "host"))
 
--- who FILE [--root DIR] [--netgroups F] --users F --hosts F --command PATH [--arguments TEXT] [--runas USER]
+-- who FILE [--root DIR] [--netgroups F] [--hostname NAME] --users F --hosts F --command PATH [--arguments TEXT] [--runas USER]
 abbrev pub who_app : App
 who_app = with_rule (with_rule (with_rule (paths_app (codes "who")) (required_option (codes "command")))
     (name_rule (codes "arguments"))) (name_rule (codes "runas"))
 
--- compare OLD NEW [--netgroups F]
+-- compare OLD NEW [--netgroups F] [--hostname NAME]
 abbrev pub policies_app : App
-policies_app = with_rule (with_rule (with_rule (new_app (codes "compare")) (required_word (codes "old"))) (required_word (codes "new")))
-    netgroups_rule
+policies_app = with_rule (with_rule (with_rule (with_rule (new_app (codes "compare")) (required_word (codes "old")))
+    (required_word (codes "new"))) netgroups_rule) hostname_rule
 
--- compare OLD NEW [--netgroups F] --users F --hosts F
+-- compare OLD NEW [--netgroups F] [--hostname NAME] --users F --hosts F
 abbrev pub pair_app : App
 pair_app = with_rule (with_rule policies_app (required_option (codes "users"))) (required_option (codes "hosts"))
 
@@ -77,7 +83,7 @@ pair_app = with_rule (with_rule policies_app (required_option (codes "users"))) 
 abbrev pub requests_rule : Rule
 requests_rule = record (new_rule (codes "requests")) { long = Some (codes "requests"); action = Some Append }
 
--- compare OLD NEW [--netgroups F] --users F --hosts F [--user NAME] [--host NAME] [--requests NAME=PATH]...
+-- compare OLD NEW [--netgroups F] [--hostname NAME] --users F --hosts F [--user NAME] [--host NAME] [--requests NAME=PATH]...
 abbrev pub compare_app : App
 compare_app = with_rule (with_rule (with_rule pair_app (name_rule (codes "user"))) (name_rule (codes "host"))) requests_rule
 
@@ -85,11 +91,11 @@ compare_app = with_rule (with_rule (with_rule pair_app (name_rule (codes "user")
 abbrev pub all_rule : Rule
 all_rule = record (new_rule (codes "all")) { long = Some (codes "all"); action = Some SetTrue }
 
--- roots FILE [--root DIR] [--netgroups F] --users F --hosts F [--all]
+-- roots FILE [--root DIR] [--netgroups F] [--hostname NAME] --users F --hosts F [--all]
 abbrev pub roots_app : App
 roots_app = with_rule (paths_app (codes "roots")) all_rule
 
--- NAME FILE [--root DIR] [--netgroups F] --users F --hosts F [--workers N] [NAME=PATH]...
+-- NAME FILE [--root DIR] [--netgroups F] [--hostname NAME] --users F --hosts F [--workers N] [NAME=PATH]...
 abbrev pub judging_app : Text → App
 judging_app name = with_rule (with_rule (paths_app name) workers_rule) senders_rule
 
@@ -104,11 +110,19 @@ program_app = with_subcommand (with_subcommand (with_subcommand (with_subcommand
     (judging_app (codes "report")).top) grants_app.top) who_app.top) roots_app.top) (paths_app (codes "subjects")).top)
     (judging_app (codes "rules")).top) compare_app.top
 
--- the rows hold the main file of a policy, the folder below which its files are, and the file of its netgroups, if they are given
+-- the host name, if given, is valid
+abbrev pub fits_hostname : Option Text → Bool
+fits_hostname None = true
+fits_hostname (Some name) = is_hostname name
+
+-- the rows hold the main file of a policy, and, if they are given, the folder below which its files are, the file of its netgroups, and
+-- the name of a host
 pub record HavePolicy (rows : List Row) (policy : PolicyPath) : Type 0 where
   pub file_is : first_of (codes "file") rows ≡ Some policy.file.now
   pub root_is : first_of (codes "root") rows ≡ option_map (λ s. s.now) policy.root
   pub netgroups_is : first_of (codes "netgroups") rows ≡ option_map (λ s. s.now) policy.netgroups
+  pub hostname_is : first_of (codes "hostname") rows ≡ option_map (λ s. s.now) policy.hostname
+  pub hostname_fits : fits_hostname (first_of (codes "hostname") rows) ≡ true
 
 -- the rows hold the paths of a policy, of the known users and of the known hosts
 pub record HavePaths (rows : List Row) (paths : Paths) : Type 0 where
@@ -116,13 +130,16 @@ pub record HavePaths (rows : List Row) (paths : Paths) : Type 0 where
   pub users_is : first_of (codes "users") rows ≡ Some paths.users.now
   pub hosts_is : first_of (codes "hosts") rows ≡ Some paths.hosts.now
 
--- the rows hold the paths of two policies, of the known users and of the known hosts, and of the netgroups, if they are given
+-- the rows hold the paths of two policies, of the known users and of the known hosts, and, if they are given, that of the netgroups and
+-- the name of a host
 pub record HavePair (rows : List Row) (paths : PairPaths) : Type 0 where
   pub old_is : first_of (codes "old") rows ≡ Some paths.old.now
   pub new_is : first_of (codes "new") rows ≡ Some paths.new.now
   pub users_is : first_of (codes "users") rows ≡ Some paths.users.now
   pub hosts_is : first_of (codes "hosts") rows ≡ Some paths.hosts.now
   pub netgroups_is : first_of (codes "netgroups") rows ≡ option_map (λ s. s.now) paths.netgroups
+  pub hostname_is : first_of (codes "hostname") rows ≡ option_map (λ s. s.now) paths.hostname
+  pub hostname_fits : fits_hostname (first_of (codes "hostname") rows) ≡ true
 
 -- the text of a flag says whether it is on; without one it is off
 abbrev pub IsFlag : Bool → Option Text → Type 0
@@ -180,7 +197,7 @@ WorkersFit (Report paths workers senders) = (1 ≤ workers) × (workers ≤ 16)
 
 -- a subcommand with these rows asks for no command: its name is another, a word is missing, a CLASS is no class of
 -- cautions, a KIND is no kind of alias, a PATH is neither one from the root nor `sudoedit`, its number of workers is outside
--- the range that an audit accepts, or a user or a host is named beside requests
+-- the range that an audit accepts, a user or a host is named beside requests, or the host name is invalid
 abbrev pub AsksNothing : Text × List Row → Type 0
 AsksNothing p = (asked : Asked) → HoldsCommand asked p → WorkersFit asked → ⊥
 

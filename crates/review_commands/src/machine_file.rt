@@ -17,6 +17,8 @@ pub enum MachineFile {
     Links,
     /// Its netgroups.
     Netgroups,
+    /// The hosts that are known.
+    Hosts,
 }
 
 /// The reason why a file says nothing of a machine.
@@ -36,6 +38,7 @@ impl MachineFile {
         match self {
             MachineFile::Links => b"links",
             MachineFile::Netgroups => b"netgroups",
+            MachineFile::Hosts => b"hosts",
         }
     }
 }

@@ -30,6 +30,17 @@ fn netgroups_at(rt: &HostRuntime, path: Option<&str>) -> Result<Vec<Triple>, Mac
     }
 }
 
+// Returns the name of a host, if one is given.
+fn name_of(rt: &HostRuntime, host: Option<&str>) -> Result<Option<Seq<u8>>, MachineFileFault> {
+    let Some(host) = host else {
+        return Ok(None);
+    };
+    match Seq::from_slice(rt.alloc(), host.as_bytes()) {
+        Ok(name) => Ok(Some(name)),
+        Err(_) => Err(MachineFileFault::Unopened(OpenFault::Memory)),
+    }
+}
+
 // Returns the files of this machine, or those below a folder of it.
 fn files_below<'a>(
     rt: &'a HostRuntime,
@@ -52,33 +63,38 @@ fn masked_files<'a>(
     rt: &'a HostRuntime,
     root: Option<&str>,
     netgroups: Option<&str>,
+    host: Option<&str>,
 ) -> Result<MaskedFiles<'a>, MachineFileFault> {
     let netgroups = netgroups_at(rt, netgroups)?;
+    let host = name_of(rt, host)?;
     let files = files_below(rt, root)?;
     let readable = Readable {
         noted: true,
         netgroups,
+        host,
     };
     Ok(Masked::new(files, readable))
 }
 
-/// Returns the files of a policy, with their masked texts: a note stands for each digest, time and root, and the members for each
-/// netgroup that the file of netgroups has. Returns why that file says nothing, if it does not, and `Unopened` with `Memory` if
-/// allocation failed.
+/// Returns the files of a policy, with their masked texts: a note stands for each digest, time and root, the members for each
+/// netgroup that the file of netgroups has, and the name of a host, if one is given, for each `%h`. Returns why that file says
+/// nothing, if it does not, and `Unopened` with `Memory` if allocation failed.
 pub(crate) fn policy_files<'a>(
     rt: &'a HostRuntime,
     policy: PolicyPath<'_>,
+    host: Option<&str>,
 ) -> Result<MaskedFiles<'a>, MachineFileFault> {
-    masked_files(rt, policy.root, policy.netgroups)
+    masked_files(rt, policy.root, policy.netgroups, host)
 }
 
 /// Returns the files of this machine twice, for two policies that are compared. Returns the faults of `policy_files`.
 pub(crate) fn pair_files<'a>(
     rt: &'a HostRuntime,
     netgroups: Option<&str>,
+    host: Option<&str>,
 ) -> Result<(MaskedFiles<'a>, MaskedFiles<'a>), MachineFileFault> {
-    let old = masked_files(rt, None, netgroups)?;
-    let new = masked_files(rt, None, netgroups)?;
+    let old = masked_files(rt, None, netgroups, host)?;
+    let new = masked_files(rt, None, netgroups, host)?;
     Ok((old, new))
 }
 

@@ -10,6 +10,7 @@ use crate::expand::expand_run;
 use crate::grants::{ScopeNames, grants_run};
 use crate::links::machine_links;
 use crate::machine_file::MachineFileFault;
+use crate::other_host::{other_host_in, other_host_line};
 use crate::policy_files::{MaskedFiles, pair_files, policy_files};
 use crate::program_name::PROGRAM;
 use crate::report::{Form, report_into};
@@ -24,19 +25,29 @@ use clap::Error;
 use clap::error::ErrorKind;
 use review_cautions::{CautionClass, Link, usual_links};
 use review_grants::Sought;
-use run_base::{Fails, OpenFault, SystemOpener, open, report_explained};
+use run_base::{Fails, OpenFault, SystemOpener, open, report_explained, write_text};
 use std::alloc::AllocError;
 use std::env;
 use std::fs::File;
 use std::sync::Wait;
 use std::thread::Threads;
 use sudo_grammar::Kind;
+use sudo_text::Seq;
 
-// The files that a command reads: those of the policy, of users, of hosts and of requests.
+// The files that a command reads: those of the policy, of users, of hosts and of requests; and the line that says why `%h` is not read
+// as the name that is given, if it is not.
 #[derive(Drop)]
 struct CommandFiles<'a> {
     policy: MaskedFiles<'a>,
     opened: OpenedFiles<Device<File>>,
+    hint: Option<Vec<u8>>,
+}
+
+// The name that `%h` is read as, if there is one, and the line that says why it is not read as the name that is given.
+#[derive(Drop)]
+struct EscapeName<'a> {
+    name: Option<&'a str>,
+    hint: Option<Vec<u8>>,
 }
 
 // Prints why a command does not run, and returns the exit status.
@@ -59,18 +70,73 @@ fn opened_files(
     }
 }
 
+// Returns the line that says why `%h` is not read as a name.
+fn hint_of(rt: &HostRuntime, name: &str, other: &[u8]) -> Result<Vec<u8>, MachineFileFault> {
+    match other_host_line(rt.alloc(), PROGRAM, name.as_bytes(), other) {
+        Ok(line) => Ok(line),
+        Err(_) => Err(MachineFileFault::Unopened(OpenFault::Memory)),
+    }
+}
+
+// Returns the first known host that has not a name, if one has not.
+fn other_host_at(
+    rt: &HostRuntime,
+    hosts: &str,
+    name: &str,
+) -> Result<Option<Seq<u8>>, MachineFileFault> {
+    let alloc = rt.alloc();
+    match open(alloc, &SystemOpener::new(rt), hosts) {
+        Ok(mut file) => other_host_in(alloc, &mut file, name.as_bytes()),
+        Err(fault) => Err(MachineFileFault::Unopened(fault)),
+    }
+}
+
+// Returns the name that `%h` is read as: the one that is given, where each known host has it. What a policy says of another host is not
+// known, since that host reads other files.
+fn escape_name<'a>(
+    rt: &HostRuntime,
+    given: Option<&'a str>,
+    hosts: &str,
+) -> Result<EscapeName<'a>, MachineFileFault> {
+    let other = match given {
+        Some(name) => match other_host_at(rt, hosts, name)? {
+            Some(other) => Some(hint_of(rt, name, other.as_slice())?),
+            None => None,
+        },
+        None => None,
+    };
+    let name = if other.is_some() { None } else { given };
+    Ok(EscapeName { name, hint: other })
+}
+
+// Prints why `%h` was not read, if a policy was refused and it was not, and returns the status.
+fn hinted(rt: &HostRuntime, status: u8, hint: &Option<Vec<u8>>) -> u8 {
+    match hint {
+        Some(line) if status == 1 => write_text(line, status, &mut Device::new(rt.stderr())),
+        _ => status,
+    }
+}
+
 // Opens the files that a command reads. Returns the exit status, with the fault printed, if one is not opened.
 fn command_files<'a>(
     rt: &'a HostRuntime,
     paths: Paths<'_>,
     words: &[&str],
 ) -> Result<CommandFiles<'a>, u8> {
-    let policy = match policy_files(rt, paths.policy) {
+    let EscapeName { name, hint } = match escape_name(rt, paths.policy.hostname, paths.hosts) {
+        Ok(found) => found,
+        Err(fault) => return Err(refused(rt, fault)),
+    };
+    let policy = match policy_files(rt, paths.policy, name) {
         Ok(files) => files,
         Err(fault) => return Err(refused(rt, fault)),
     };
     let opened = opened_files(rt, paths.users, paths.hosts, words)?;
-    Ok(CommandFiles { policy, opened })
+    Ok(CommandFiles {
+        policy,
+        opened,
+        hint,
+    })
 }
 
 // Answers the requests of the files that the words `NAME=PATH` name, under a policy, and returns the exit status.
@@ -85,7 +151,11 @@ fn run_report<T: Threads + Wait + Sync>(
 ) -> u8
     requires { (1 ≤ workers) × (workers ≤ 16) }
 {
-    let CommandFiles { mut policy, opened } = match command_files(rt, paths, words) {
+    let CommandFiles {
+        mut policy,
+        opened,
+        hint,
+    } = match command_files(rt, paths, words) {
         Ok(files) => files,
         Err(status) => return status,
     };
@@ -94,7 +164,7 @@ fn run_report<T: Threads + Wait + Sync>(
         mut hosts,
         sources,
     } = opened;
-    report_into(
+    let status = report_into(
         rt.alloc(),
         threads,
         paths.policy.file.as_bytes(),
@@ -105,7 +175,8 @@ fn run_report<T: Threads + Wait + Sync>(
         form,
         &mut Device::new(rt.stdout()),
         &mut Device::new(rt.stderr()),
-    )
+    );
+    hinted(rt, status, &hint)
 }
 
 // Returns the links of the machine: those of the file at a path, or the usual ones.
@@ -125,7 +196,7 @@ fn links_at(rt: &HostRuntime, path: Option<&str>) -> Result<Vec<Link>, MachineFi
 
 // Lists the findings on a policy, and returns the exit status.
 fn run_check(rt: &HostRuntime, policy: PolicyPath<'_>) -> u8 {
-    match policy_files(rt, policy) {
+    match policy_files(rt, policy, policy.hostname) {
         Ok(mut files) => check_run(
             rt.alloc(),
             policy.file.as_bytes(),
@@ -139,7 +210,7 @@ fn run_check(rt: &HostRuntime, policy: PolicyPath<'_>) -> u8 {
 
 // Writes an alias of a policy out, and returns the exit status.
 fn run_expand(rt: &HostRuntime, policy: PolicyPath<'_>, kind: Kind, name: &str) -> u8 {
-    match policy_files(rt, policy) {
+    match policy_files(rt, policy, policy.hostname) {
         Ok(mut files) => expand_run(
             rt.alloc(),
             policy.file.as_bytes(),
@@ -160,7 +231,7 @@ fn run_cautions(
     links: Option<&str>,
     without: &[CautionClass],
 ) -> u8 {
-    let mut files = match policy_files(rt, policy) {
+    let mut files = match policy_files(rt, policy, policy.hostname) {
         Ok(files) => files,
         Err(fault) => return refused(rt, fault),
     };
@@ -180,7 +251,11 @@ fn run_cautions(
 
 // Lists the grants of a policy, and returns the exit status.
 fn run_grants(rt: &HostRuntime, paths: Paths<'_>, names: ScopeNames<'_>) -> u8 {
-    let CommandFiles { mut policy, opened } = match command_files(rt, paths, &[]) {
+    let CommandFiles {
+        mut policy,
+        opened,
+        hint,
+    } = match command_files(rt, paths, &[]) {
         Ok(files) => files,
         Err(status) => return status,
     };
@@ -189,7 +264,7 @@ fn run_grants(rt: &HostRuntime, paths: Paths<'_>, names: ScopeNames<'_>) -> u8 {
         mut hosts,
         ..
     } = opened;
-    grants_run(
+    let status = grants_run(
         rt.alloc(),
         paths.policy.file.as_bytes(),
         &mut policy,
@@ -198,12 +273,17 @@ fn run_grants(rt: &HostRuntime, paths: Paths<'_>, names: ScopeNames<'_>) -> u8 {
         names,
         &mut Device::new(rt.stdout()),
         &mut Device::new(rt.stderr()),
-    )
+    );
+    hinted(rt, status, &hint)
 }
 
 // Lists who may run a command under a policy, and returns the exit status.
 fn run_who(rt: &HostRuntime, paths: Paths<'_>, sought: Sought<'_>) -> u8 {
-    let CommandFiles { mut policy, opened } = match command_files(rt, paths, &[]) {
+    let CommandFiles {
+        mut policy,
+        opened,
+        hint,
+    } = match command_files(rt, paths, &[]) {
         Ok(files) => files,
         Err(status) => return status,
     };
@@ -212,7 +292,7 @@ fn run_who(rt: &HostRuntime, paths: Paths<'_>, sought: Sought<'_>) -> u8 {
         mut hosts,
         ..
     } = opened;
-    who_run(
+    let status = who_run(
         rt.alloc(),
         paths.policy.file.as_bytes(),
         &mut policy,
@@ -221,12 +301,17 @@ fn run_who(rt: &HostRuntime, paths: Paths<'_>, sought: Sought<'_>) -> u8 {
         sought,
         &mut Device::new(rt.stdout()),
         &mut Device::new(rt.stderr()),
-    )
+    );
+    hinted(rt, status, &hint)
 }
 
 // Lists who can become root under a policy, and returns the exit status.
 fn run_roots(rt: &HostRuntime, paths: Paths<'_>, all: bool) -> u8 {
-    let CommandFiles { mut policy, opened } = match command_files(rt, paths, &[]) {
+    let CommandFiles {
+        mut policy,
+        opened,
+        hint,
+    } = match command_files(rt, paths, &[]) {
         Ok(files) => files,
         Err(status) => return status,
     };
@@ -235,7 +320,7 @@ fn run_roots(rt: &HostRuntime, paths: Paths<'_>, all: bool) -> u8 {
         mut hosts,
         ..
     } = opened;
-    roots_run(
+    let status = roots_run(
         rt.alloc(),
         paths.policy.file.as_bytes(),
         &mut policy,
@@ -244,12 +329,17 @@ fn run_roots(rt: &HostRuntime, paths: Paths<'_>, all: bool) -> u8 {
         all,
         &mut Device::new(rt.stdout()),
         &mut Device::new(rt.stderr()),
-    )
+    );
+    hinted(rt, status, &hint)
 }
 
 // Lists what of a policy reaches nobody, and returns the exit status.
 fn run_subjects(rt: &HostRuntime, paths: Paths<'_>) -> u8 {
-    let CommandFiles { mut policy, opened } = match command_files(rt, paths, &[]) {
+    let CommandFiles {
+        mut policy,
+        opened,
+        hint,
+    } = match command_files(rt, paths, &[]) {
         Ok(files) => files,
         Err(status) => return status,
     };
@@ -258,7 +348,7 @@ fn run_subjects(rt: &HostRuntime, paths: Paths<'_>) -> u8 {
         mut hosts,
         ..
     } = opened;
-    subjects_run(
+    let status = subjects_run(
         rt.alloc(),
         paths.policy.file.as_bytes(),
         &mut policy,
@@ -266,12 +356,17 @@ fn run_subjects(rt: &HostRuntime, paths: Paths<'_>) -> u8 {
         &mut hosts,
         &mut Device::new(rt.stdout()),
         &mut Device::new(rt.stderr()),
-    )
+    );
+    hinted(rt, status, &hint)
 }
 
 // Lists what a change of a policy does, and returns the exit status.
 fn run_compare(rt: &HostRuntime, paths: PairPaths<'_>, names: ScopeNames<'_>) -> u8 {
-    let (mut before, mut after) = match pair_files(rt, paths.netgroups) {
+    let EscapeName { name, hint } = match escape_name(rt, paths.hostname, paths.hosts) {
+        Ok(found) => found,
+        Err(fault) => return refused(rt, fault),
+    };
+    let (mut before, mut after) = match pair_files(rt, paths.netgroups, name) {
         Ok(pair) => pair,
         Err(fault) => return refused(rt, fault),
     };
@@ -283,7 +378,7 @@ fn run_compare(rt: &HostRuntime, paths: PairPaths<'_>, names: ScopeNames<'_>) ->
         Ok(opened) => opened,
         Err(status) => return status,
     };
-    compare_run(
+    let status = compare_run(
         rt.alloc(),
         paths.old.as_bytes(),
         &mut before,
@@ -294,7 +389,8 @@ fn run_compare(rt: &HostRuntime, paths: PairPaths<'_>, names: ScopeNames<'_>) ->
         names,
         &mut Device::new(rt.stdout()),
         &mut Device::new(rt.stderr()),
-    )
+    );
+    hinted(rt, status, &hint)
 }
 
 // Lists the requests that a change of a policy answers otherwise or may answer otherwise, and returns the exit status. `threads` is
@@ -305,7 +401,11 @@ fn run_changes<T: Threads + Wait + Sync>(
     paths: PairPaths<'_>,
     words: &[&str],
 ) -> u8 {
-    let (mut before, mut after) = match pair_files(rt, paths.netgroups) {
+    let EscapeName { name, hint } = match escape_name(rt, paths.hostname, paths.hosts) {
+        Ok(found) => found,
+        Err(fault) => return refused(rt, fault),
+    };
+    let (mut before, mut after) = match pair_files(rt, paths.netgroups, name) {
         Ok(pair) => pair,
         Err(fault) => return refused(rt, fault),
     };
@@ -317,7 +417,7 @@ fn run_changes<T: Threads + Wait + Sync>(
         Ok(opened) => opened,
         Err(status) => return status,
     };
-    changes_run(
+    let status = changes_run(
         rt.alloc(),
         threads,
         paths.old.as_bytes(),
@@ -329,7 +429,8 @@ fn run_changes<T: Threads + Wait + Sync>(
         sources,
         &mut Device::new(rt.stdout()),
         &mut Device::new(rt.stderr()),
-    )
+    );
+    hinted(rt, status, &hint)
 }
 
 // Returns the bytes of a text, where one is given.

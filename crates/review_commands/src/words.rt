@@ -1,5 +1,5 @@
 //! The words of the command line.
-ghost use Rattle.std.specs.Prelude.{◌≡◌, ◌≢◌, [], None, Some, IfErr, IfOk, IfSome, List, codes, map, unwrap_or};
+ghost use Rattle.std.specs.Prelude.{◌≡◌, ◌≢◌, [], None, Some, IfErr, IfOk, IfSome, List, codes, map, true, unwrap_or};
 ghost use Rattle.clap.specs.Words.{Row, Text, all_of, app_of, first_of, found_of, kind_of as error_kind, one_of, rows_of};
 ghost use Rattle.clap.specs.Words.{subcommand_of, subcommand_rows_of};
 ghost use Rattle.run_base.specs.Arguments.{IsUnaskedKind, IsUnreadableWord};
@@ -9,7 +9,7 @@ ghost use Rattle.review_commands.specs.Words.{AsksNothing, IsErrorOfWords};
 ghost use Rattle.audit_files.specs.Requests.{is_command as command_test};
 ghost use Rattle.review_commands.specs.Body.Paths.{LackPair, LackPaths};
 ghost use Rattle.sudo_grammar.specs.declared.kind.Kind.{Kind as TheKind};
-ghost use Rattle.review_commands.specs.Words.{HavePair, HavePaths, HavePolicy, HoldsCommand, IsFlag};
+ghost use Rattle.review_commands.specs.Words.{HavePair, HavePaths, HavePolicy, HoldsCommand, IsFlag, fits_hostname};
 ghost use Rattle.review_commands.specs.Words.{WorkersFit, kind_word, program_app};
 
 use crate::command_line::program;
@@ -17,6 +17,7 @@ use crate::request::{Asked, PairPaths, Paths, PolicyPath};
 use clap::error::ErrorKind;
 use clap::{ArgMatches, Command, Error};
 use review_cautions::{CautionClass, class_named};
+use review_texts::is_hostname;
 use run_base::{value, values, workers};
 use std::alloc::{AllocError, AllocFailed, Global};
 use std::convert::AsStr;
@@ -36,6 +37,8 @@ enum Unasked {
     BadCommand,
     // A user or a host is named beside requests.
     Scoped,
+    // The host name is invalid.
+    BadHostname,
     // Out of memory.
     Memory,
 }
@@ -80,21 +83,25 @@ fn classes_named(alloc: Global, words: &[&str]) -> Result<Vec<CautionClass>, Una
 
 // Returns the policy that a command is about, or `None` if it has no main file.
 fn policy_of<'a>(given: &ArgMatches<'a>) -> Option<PolicyPath<'a>>
+    requires { fits_hostname (first_of (codes "hostname") (rows_of (found_of given.now))) ≡ true }
     ensures stated { IfSome result (HavePolicy (rows_of (found_of given.now))) }
     ensures none { result ≡ None → first_of (codes "file") (rows_of (found_of given.now)) ≡ None }
 {
     let file = value(given, "file")?;
     let root = value(given, "root");
     let netgroups = value(given, "netgroups");
+    let hostname = value(given, "hostname");
     Some(PolicyPath {
         file,
         root,
         netgroups,
+        hostname,
     })
 }
 
 // Returns the command of the values of `check`.
 fn asked_check<'a>(given: &ArgMatches<'a>) -> Result<Asked<'a>, Unasked>
+    requires { fits_hostname (first_of (codes "hostname") (rows_of (found_of given.now))) ≡ true }
     ensures stated { IfOk result
         (λ a. HoldsCommand a (codes "check", rows_of (found_of given.now))) }
     ensures workers { IfOk result WorkersFit }
@@ -129,6 +136,7 @@ fn kind_of(word: &str) -> Option<Kind>
 
 // Returns the command of the values of `expand`.
 fn asked_expand<'a>(given: &ArgMatches<'a>) -> Result<Asked<'a>, Unasked>
+    requires { fits_hostname (first_of (codes "hostname") (rows_of (found_of given.now))) ≡ true }
     ensures stated { IfOk result
         (λ a. HoldsCommand a (codes "expand", rows_of (found_of given.now))) }
     ensures workers { IfOk result WorkersFit }
@@ -152,6 +160,7 @@ fn asked_expand<'a>(given: &ArgMatches<'a>) -> Result<Asked<'a>, Unasked>
 
 // Returns the command of the values of `cautions`.
 fn asked_cautions<'a>(alloc: Global, given: &ArgMatches<'a>) -> Result<Asked<'a>, Unasked>
+    requires { fits_hostname (first_of (codes "hostname") (rows_of (found_of given.now))) ≡ true }
     ensures stated { IfOk result
         (λ a. HoldsCommand a (codes "cautions", rows_of (found_of given.now))) }
     ensures workers { IfOk result WorkersFit }
@@ -173,6 +182,7 @@ fn asked_cautions<'a>(alloc: Global, given: &ArgMatches<'a>) -> Result<Asked<'a>
 
 // Returns the paths that a command takes, or `None` if one has no value.
 fn paths_of<'a>(given: &ArgMatches<'a>) -> Option<Paths<'a>>
+    requires { fits_hostname (first_of (codes "hostname") (rows_of (found_of given.now))) ≡ true }
     ensures stated { IfSome result (HavePaths (rows_of (found_of given.now))) }
     ensures none { result ≡ None → LackPaths (rows_of (found_of given.now)) }
 {
@@ -188,6 +198,7 @@ fn paths_of<'a>(given: &ArgMatches<'a>) -> Option<Paths<'a>>
 
 // Returns the command of the values of `grants`.
 fn asked_grants<'a>(given: &ArgMatches<'a>) -> Result<Asked<'a>, Unasked>
+    requires { fits_hostname (first_of (codes "hostname") (rows_of (found_of given.now))) ≡ true }
     ensures stated { IfOk result
         (λ a. HoldsCommand a (codes "grants", rows_of (found_of given.now))) }
     ensures workers { IfOk result WorkersFit }
@@ -216,6 +227,7 @@ fn is_command(text: &[u8]) -> bool
 
 // Returns the command of the values of `who`.
 fn asked_who<'a>(given: &ArgMatches<'a>) -> Result<Asked<'a>, Unasked>
+    requires { fits_hostname (first_of (codes "hostname") (rows_of (found_of given.now))) ≡ true }
     ensures stated { IfOk result
         (λ a. HoldsCommand a (codes "who", rows_of (found_of given.now))) }
     ensures workers { IfOk result WorkersFit }
@@ -241,6 +253,7 @@ fn asked_who<'a>(given: &ArgMatches<'a>) -> Result<Asked<'a>, Unasked>
 
 // Returns the paths that a comparison takes, or `None` if one has no value.
 fn pair_of<'a>(given: &ArgMatches<'a>) -> Option<PairPaths<'a>>
+    requires { fits_hostname (first_of (codes "hostname") (rows_of (found_of given.now))) ≡ true }
     ensures stated { IfSome result (HavePair (rows_of (found_of given.now))) }
     ensures none { result ≡ None → LackPair (rows_of (found_of given.now)) }
 {
@@ -249,12 +262,14 @@ fn pair_of<'a>(given: &ArgMatches<'a>) -> Option<PairPaths<'a>>
     let users = value(given, "users")?;
     let hosts = value(given, "hosts")?;
     let netgroups = value(given, "netgroups");
+    let hostname = value(given, "hostname");
     Some(PairPaths {
         old,
         new,
         users,
         hosts,
         netgroups,
+        hostname,
     })
 }
 
@@ -285,6 +300,7 @@ fn asked_changes<'a>(
 
 // Returns the command of the values of `compare`.
 fn asked_compare<'a>(alloc: Global, given: &ArgMatches<'a>) -> Result<Asked<'a>, Unasked>
+    requires { fits_hostname (first_of (codes "hostname") (rows_of (found_of given.now))) ≡ true }
     ensures stated { IfOk result
         (λ a. HoldsCommand a (codes "compare", rows_of (found_of given.now))) }
     ensures workers { IfOk result WorkersFit }
@@ -314,6 +330,7 @@ fn flag(given: &ArgMatches<'_>, id: &str) -> bool
 
 // Returns the command of the values of `roots`.
 fn asked_roots<'a>(given: &ArgMatches<'a>) -> Result<Asked<'a>, Unasked>
+    requires { fits_hostname (first_of (codes "hostname") (rows_of (found_of given.now))) ≡ true }
     ensures stated { IfOk result
         (λ a. HoldsCommand a (codes "roots", rows_of (found_of given.now))) }
     ensures workers { IfOk result WorkersFit }
@@ -331,6 +348,7 @@ fn asked_roots<'a>(given: &ArgMatches<'a>) -> Result<Asked<'a>, Unasked>
 
 // Returns the command of the values of `subjects`.
 fn asked_subjects<'a>(given: &ArgMatches<'a>) -> Result<Asked<'a>, Unasked>
+    requires { fits_hostname (first_of (codes "hostname") (rows_of (found_of given.now))) ≡ true }
     ensures stated { IfOk result
         (λ a. HoldsCommand a (codes "subjects", rows_of (found_of given.now))) }
     ensures workers { IfOk result WorkersFit }
@@ -345,6 +363,7 @@ fn asked_subjects<'a>(given: &ArgMatches<'a>) -> Result<Asked<'a>, Unasked>
 
 // Returns the command of the values of `rules`.
 fn asked_rules<'a>(alloc: Global, given: &ArgMatches<'a>) -> Result<Asked<'a>, Unasked>
+    requires { fits_hostname (first_of (codes "hostname") (rows_of (found_of given.now))) ≡ true }
     ensures stated { IfOk result
         (λ a. HoldsCommand a (codes "rules", rows_of (found_of given.now))) }
     ensures workers { IfOk result WorkersFit }
@@ -367,6 +386,7 @@ fn asked_rules<'a>(alloc: Global, given: &ArgMatches<'a>) -> Result<Asked<'a>, U
 
 // Returns the command of the values of `report`.
 fn asked_report<'a>(alloc: Global, given: &ArgMatches<'a>) -> Result<Asked<'a>, Unasked>
+    requires { fits_hostname (first_of (codes "hostname") (rows_of (found_of given.now))) ≡ true }
     ensures stated { IfOk result
         (λ a. HoldsCommand a (codes "report", rows_of (found_of given.now))) }
     ensures workers { IfOk result WorkersFit }
@@ -387,8 +407,9 @@ fn asked_report<'a>(alloc: Global, given: &ArgMatches<'a>) -> Result<Asked<'a>, 
     })
 }
 
-// Returns the command that a subcommand asks for.
-fn asked_by<'a>(alloc: Global, name: &str, given: &ArgMatches<'a>) -> Result<Asked<'a>, Unasked>
+// Returns the command that a subcommand asks for. Its host name, if given, is valid.
+fn asked_named<'a>(alloc: Global, name: &str, given: &ArgMatches<'a>) -> Result<Asked<'a>, Unasked>
+    requires { fits_hostname (first_of (codes "hostname") (rows_of (found_of given.now))) ≡ true }
     ensures stated { IfOk result (λ a. HoldsCommand a (name.now, rows_of (found_of given.now))) }
     ensures workers { IfOk result WorkersFit }
     ensures nothing { IfErr result (λ e. e ≢ Unasked.Memory
@@ -425,6 +446,29 @@ fn asked_by<'a>(alloc: Global, name: &str, given: &ArgMatches<'a>) -> Result<Ask
         return asked_who(given);
     }
     Err(Unasked::Missing)
+}
+
+// Whether the host name, if given, is valid.
+fn hostname_fits(given: &ArgMatches<'_>) -> bool
+    ensures { result ≡ fits_hostname (first_of (codes "hostname") (rows_of (found_of given.now))) }
+{
+    match value(given, "hostname") {
+        Some(name) => is_hostname(name.as_bytes()),
+        None => true,
+    }
+}
+
+// Returns the command that a subcommand asks for.
+fn asked_by<'a>(alloc: Global, name: &str, given: &ArgMatches<'a>) -> Result<Asked<'a>, Unasked>
+    ensures stated { IfOk result (λ a. HoldsCommand a (name.now, rows_of (found_of given.now))) }
+    ensures workers { IfOk result WorkersFit }
+    ensures nothing { IfErr result (λ e. e ≢ Unasked.Memory
+        → AsksNothing (name.now, rows_of (found_of given.now))) }
+{
+    if !hostname_fits(given) {
+        return Err(Unasked::BadHostname);
+    }
+    asked_named(alloc, name, given)
 }
 
 // Returns the command that the subcommand asks for.
@@ -469,6 +513,10 @@ fn unasked_error(command: &mut Command<'_>, unasked: Unasked) -> Result<Error, A
             ErrorKind::InvalidValue,
             "--user and --host cannot be used with --requests",
         ),
+        Unasked::BadHostname => command.error(
+            ErrorKind::InvalidValue,
+            "NAME is not a host name: letters, digits, - and _ in parts with dots between them",
+        ),
         Unasked::Memory => Ok(Error::from(AllocError)),
     }
 }
@@ -501,11 +549,12 @@ fn asked_of<'a, S: AsStr>(
 /// `rules FILE --users F --hosts F [--workers N] [NAME=PATH]...`,
 /// `compare OLD NEW --users F --hosts F [--user NAME] [--host NAME]`, or
 /// `compare OLD NEW --users F --hosts F --requests NAME=PATH...`, where N is 1 to 16, by default 2; each but `compare`
-/// takes `--root DIR` behind its name, and each `--netgroups F`.
+/// takes `--root DIR` behind its name, and each `--netgroups F` and `--hostname NAME`.
 ///
 /// Returns `clap`'s error, apart from allocation failure, exactly if `clap` does not accept the
 /// words (they are no such command, or ask for help or for the version), a CLASS is no class of cautions, a KIND no kind of alias, a
-/// PATH neither begins with a slash nor is `sudoedit`, or a user or a host is named beside requests.
+/// PATH neither begins with a slash nor is `sudoedit`, a user or a host is named beside requests, or the NAME of `--hostname` is no valid
+/// host name.
 pub fn asked<'a, S: AsStr>(alloc: Global, words: &'a [S]) -> Result<Asked<'a>, Error>
     ensures stated { IfOk result (λ a. (p : Text × List Row)
         × (subcommand_of program_app (map S.text words.entry.now) ≡ Some p) × HoldsCommand a p) }

@@ -34,3 +34,4 @@ pub mod SameRunasLemmas
 pub mod WhoeverLemmas
 pub mod SharedLemmas
 pub mod HostMarksLemmas
+pub mod SettledLemmas

@@ -14,7 +14,7 @@ use Rattle.review_compare.specs.Compared.{said, same_answer}
 use Rattle.review_compare.specs.Lines.{Choice, Lined, fits_where}
 use Rattle.review_compare.specs.Simply.{disjoint_simply}
 use Rattle.review_compare.specs.Witnesses.{RowsSaySame}
-use Rattle.review_compare.specs.Body.Reaches.{Agrees, AgreesFrom, AllAgree}
+use Rattle.review_compare.specs.Body.Reaches.{Agrees, AgreesFrom, AgreesWithAll, AllAgree}
 use Rattle.review_compare.specs.Body.Shown.{all_shown, is_covered_by, is_covered_by_either, pair_agrees, ruling_of, shown}
 use Rattle.review_compare.proofs.CellLemmas.{said-answered, simple-sound}
 use Rattle.review_compare.proofs.ComparedLemmas.{answer_same}
@@ -183,6 +183,60 @@ agrees-more rs ss at from n own other in_rs is in_ss also agrees so_far j order 
         ∙ ap (λ (y : Ruled). pair_agrees (shown own) (all_shown (drop (at + 1) rs)) (shown y) (all_shown (drop (j + 1) ss))) beside
         ∙ ap (λ k. pair_agrees (shown own) (all_shown (drop (at + 1) rs)) (shown other) (all_shown (drop (k + 1) ss))) same
         ∙ agrees
+
+-- ---- A row that one behind all others covers
+
+or-true : (b : Bool) → (b || true) ≡ true
+or-true true = refl
+or-true false = refl
+
+covered-earlier : (rs : List Ruled) (a : Lined) (i k : ℕ) → i ≤ k → is_covered_by (all_shown (drop k rs)) a ≡ true →
+    is_covered_by (all_shown (drop i rs)) a ≡ true
+covered-earlier rs a zero zero order e = e
+covered-earlier [] a zero (suc k) order e = e
+covered-earlier (r ∷ rs) a zero (suc k) order e =
+    ap (λ b. covers_where (lined_of (shown r)) a || b) (covered-earlier rs a zero k (omega arith) e)
+    ∙ or-true (covers_where (lined_of (shown r)) a)
+covered-earlier rs a (suc i) zero order e = absurd (omega (arith, order))
+covered-earlier [] a (suc i) (suc k) order e = e
+covered-earlier (r ∷ rs) a (suc i) (suc k) order e = covered-earlier rs a i k (omega (arith, order)) e
+
+either-earlier : (ds : List Decider) (rs : List Ruled) (a : Lined) (i k : ℕ) → i ≤ k →
+    is_covered_by_either ds (all_shown (drop k rs)) a ≡ true → is_covered_by_either ds (all_shown (drop i rs)) a ≡ true
+either-earlier ds rs a i k order e = go (or_cases (is_covered_by ds a) (is_covered_by (all_shown (drop k rs)) a) e)
+  where
+    go : (is_covered_by ds a ≡ true) ⊎ (is_covered_by (all_shown (drop k rs)) a ≡ true) →
+        is_covered_by_either ds (all_shown (drop i rs)) a ≡ true
+    go (inl here) = ap (λ b. b || is_covered_by (all_shown (drop i rs)) a) here
+    go (inr there) = ap (λ b. is_covered_by ds a || b) (covered-earlier rs a i k order there) ∙ or-true (is_covered_by ds a)
+
+covered-agrees : (d : Decider) (later : List Decider) (e : Decider) (more : List Decider) →
+    is_covered_by_either later more (lined_of d) ≡ true → pair_agrees d later e more ≡ true
+covered-agrees d later e more covered =
+    ap (λ v. same_answer d.answer e.answer
+    || ((v || is_covered_by_either later more (lined_of e)) || disjoint_simply d.atom e.atom)) covered
+    ∙ or-true (same_answer d.answer e.answer)
+
+agrees-behind : (rs ss : List Ruled) (at end : ℕ) (own : Ruled) → at < length rs → own ≡ get_or rs at own →
+    is_covered_by_either (all_shown (drop (at + 1) rs)) (all_shown (drop end ss)) (lined_of (shown own)) ≡ true →
+    AgreesFrom rs ss at 0 end
+agrees-behind rs ss at end own in_rs is covered j order less r s here there =
+    let later : List Decider = all_shown (drop (at + 1) rs) in
+    let row : r ≡ own = here ∙ get_or_default rs at r own in_rs ∙ sym is in
+    ap (λ (y : Ruled). pair_agrees (shown y) later (shown s) (all_shown (drop (j + 1) ss))) row
+    ∙ covered-agrees (shown own) later (shown s) (all_shown (drop (j + 1) ss))
+    (either-earlier later ss (lined_of (shown own)) (j + 1) end (omega (arith, less)) covered)
+
+pub agrees-with-all : (rs ss : List Ruled) (at end : ℕ) (own : Ruled) → at < length rs → own ≡ get_or rs at own →
+    is_covered_by_either (all_shown (drop (at + 1) rs)) (all_shown ss) (lined_of (shown own)) ≡ true →
+    is_covered_by_either (all_shown (drop (at + 1) rs)) (all_shown (drop end ss)) (lined_of (shown own)) ≡ true →
+    AgreesWithAll rs ss at end
+agrees-with-all rs ss at end own in_rs is some behind = record {
+  covered = λ r here.
+      ap (λ (y : Ruled). is_covered_by_either (all_shown (drop (at + 1) rs)) (all_shown ss) (lined_of (shown y)))
+      (here ∙ get_or_default rs at r own in_rs ∙ sym is) ∙ some;
+  pairs = agrees-behind rs ss at end own in_rs is behind;
+}
 
 -- one row more of the first list
 pub each-more : (rs ss : List Ruled) (front end n : ℕ) → Agrees rs ss n front end →

@@ -1,12 +1,17 @@
 -- Up to where the rows of blocks have one that applies wherever a row does, by what is known of each block.
-use Rattle.std.proofs.Common.{◌≡◌, ◌≤◌, ◌<◌, ◌+◌, ◌-◌, ◌∙◌, ℕ, zero, suc, Bool, true, false, List, [], ◌∷◌, ◌++◌}
+use Rattle.std.proofs.Common.{◌≡◌, ◌≤◌, ◌<◌, ◌+◌, ◌-◌, ◌∙◌, ℕ, zero, suc, Bool, true, false, ◌||◌, List, [], ◌∷◌, ◌++◌}
+use Rattle.std.specs.Prelude.{nat_lt}
+use Rattle.std.proofs.lemmas.Bool.Decides.{nat_tests}
 use Rattle.std.proofs.Common.{ap, arith, drop, get_or, length, refl, sym, take}
 use Rattle.std.proofs.lemmas.List.{append_assoc, length-append}
+use Rattle.std.proofs.lemmas.List.Folds.{list_any-append}
 use Rattle.review_compare.specs.declared.block.Block.{Block}
 use Rattle.review_compare.specs.Cells.{Decider, covers_where, lined_of}
 use Rattle.review_compare.specs.Lines.{Lined}
 use Rattle.review_compare.specs.Body.Chosen.{chosen, deciders_at}
 use Rattle.review_compare.specs.Body.Reaches.{reach, reach_after}
+use Rattle.review_compare.specs.Body.Shown.{is_covered_by}
+use Rattle.review_compare.proofs.ReachLemmas.{reach-past}
 
 -- ---- Rows before others
 
@@ -103,3 +108,22 @@ reach-here bs xs k left rows (suc n) a within all are none is some =
 pub own-within : (bs : List Block) (x rows own : ℕ) (a : Lined) → rows ≡ length (deciders_at bs x) → own ≡ reach (deciders_at bs x) a →
     own ≤ rows
 own-within bs x rows own a are is = omega (arith, reach-within (deciders_at bs x) a, are, is)
+
+-- ---- A row of a block that applies wherever the row does
+
+or-true : (b : Bool) → (b || true) ≡ true
+or-true true = refl
+or-true false = refl
+
+pub covered-at : (bs : List Block) (xs : List ℕ) (k n : ℕ) (a : Lined) → k < length xs →
+    n ≡ reach (deciders_at bs (get_or xs k 0)) a → 0 < n → is_covered_by (chosen bs xs) a ≡ true
+covered-at bs xs k n a within is some =
+    let ds = deciders_at bs (get_or xs k 0) in
+    let more = chosen bs (drop (k + 1) xs) in
+    let past : nat_lt 0 n ≡ true = grind (arith, nat_tests, some) in
+    let own : is_covered_by ds a ≡ true = sym (reach-past ds a 0) ∙ sym (ap (λ m. nat_lt 0 m) is) ∙ past in
+    ap (λ es. is_covered_by es a) (chosen-split bs k xs ∙ ap (λ es. chosen bs (take k xs) ++ es) (chosen-from bs k xs within))
+    ∙ list_any-append (λ d. covers_where (lined_of d) a) (chosen bs (take k xs)) (ds ++ more)
+    ∙ ap (λ b. is_covered_by (chosen bs (take k xs)) a || b)
+    (list_any-append (λ d. covers_where (lined_of d) a) ds more ∙ ap (λ b. b || is_covered_by more a) own)
+    ∙ or-true (is_covered_by (chosen bs (take k xs)) a)

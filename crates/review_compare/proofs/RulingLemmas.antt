@@ -12,7 +12,7 @@ drop-at xs i x within is =
     drop-cons xs i x within ∙ ap (λ y. y ∷ drop (suc i) xs) (sym is)
     ∙ (let on : suc i ≡ i + 1 = omega arith in ap (λ n. x ∷ drop n xs) on)
 
-list_any-map : {A B : Type 0} (g : B → Bool) (f : A → B) (xs : List A) → list_any g (map f xs) ≡ list_any (λ x. g (f x)) xs
+pub list_any-map : {A B : Type 0} (g : B → Bool) (f : A → B) (xs : List A) → list_any g (map f xs) ≡ list_any (λ x. g (f x)) xs
 list_any-map g f [] = refl
 list_any-map g f (x ∷ xs) = ap (λ b. g (f x) || b) (list_any-map g f xs)
 

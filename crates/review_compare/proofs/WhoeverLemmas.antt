@@ -16,7 +16,12 @@ use Rattle.sudo_verdict.specs.RunasForms.{form_allows, group_allowed, is_same_us
 use Rattle.review_compare.specs.declared.block.Block.{Block}
 use Rattle.review_compare.specs.Body.Chosen.{runas_at}
 use Rattle.review_compare.specs.Body.SameRunas.{AreAnswers}
-use Rattle.review_compare.specs.Body.Whoever.{AllowsWhoever, HasForm, has_both_lists}
+use Rattle.review_compare.specs.declared.cell.Ask.{Ask}
+use Rattle.review_compare.specs.declared.pair.Pair.{Pair}
+use Rattle.review_compare.specs.declared.spot.Listed.{Listed}
+use Rattle.review_compare.specs.Differences.{known_at}
+use Rattle.review_compare.specs.Body.Whoever.{AllowAlikeBelow, AllowsWhoever, AreAnswered, AreAnsweredBy, AreFormsAlike, HasForm}
+use Rattle.review_compare.specs.Body.Whoever.{has_both_lists}
 use Rattle.review_compare.proofs.UnchangedLemmas.{less-or}
 
 -- a runas with both lists answers the same to the target and to another user: then it does to each
@@ -74,3 +79,36 @@ forms-more p bs is forms more at kept so_far one k less = go (less-or k at less)
     go : (k < at) ⊎ (k ≡ at) → HasForm p bs more (get_or is k 0)
     go (inl before) = kept (get_or is k 0) (so_far k before)
     go (inr here) = subst (λ (j : ℕ). HasForm p bs more (get_or is j 0)) (sym here) one
+
+-- ---- Both policies
+
+-- one pair of blocks more
+pub alike-more : (p : Pair) (forms : Listed) (n : ℕ) → AllowAlikeBelow p forms n →
+    ((q : Question) → runas_at p.old.checked.now p.old.blocks.items q (get_or forms.old.items n 0)
+    ≡ runas_at p.new.checked.now p.new.blocks.items q (get_or forms.new.items n 0)) →
+    AllowAlikeBelow p forms (n + 1)
+alike-more p forms n so_far one q k less = go (less-or k n less)
+  where
+    go : (k < n) ⊎ (k ≡ n) → runas_at p.old.checked.now p.old.blocks.items q (get_or forms.old.items k 0)
+        ≡ runas_at p.new.checked.now p.new.blocks.items q (get_or forms.new.items k 0)
+    go (inl before) = so_far q k before
+    go (inr here) =
+        ap (λ (j : ℕ). runas_at p.old.checked.now p.old.blocks.items q (get_or forms.old.items j 0)) here ∙ one q
+        ∙ sym (ap (λ (j : ℕ). runas_at p.new.checked.now p.new.blocks.items q (get_or forms.new.items j 0)) here)
+
+-- blocks that allow the same answer the same
+pub answers-alike : (p : Pair) (forms : Listed) (a : Ask) (old new : List Bool) → AreFormsAlike p forms → new ≡ old →
+    AreAnsweredBy p.old.checked.now p.old.blocks.items p.directory.now (known_at p.directory.now.people a.target)
+    (known_at p.groups.now a.group) forms.old.items old →
+    AreAnswered p forms a old new
+answers-alike p forms a old new alike same own =
+    subst (AreAnswered p forms a old) (sym same) (record {
+      in_old = own;
+      in_new = record {
+        long = own.long ∙ alike.long;
+        are = λ u m k d less.
+            own.are u m k d less
+            ∙ alike.each (question_as p.directory.now u m (known_at p.directory.now.people a.target) (known_at p.groups.now a.group)) k
+            (omega (arith, less, own.long));
+      };
+    })

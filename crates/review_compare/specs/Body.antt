@@ -22,3 +22,4 @@ pub mod HostMarks
 pub mod Trials
 pub mod Reaches
 pub mod RowReaches
+pub mod Settled

@@ -177,8 +177,8 @@ fn stand_alike(
     allow_alike(alloc, old, block.runas, new, other.runas)
 }
 
-// Whether the rows of the blocks at these indices answer the same, one by one.
-fn have_same_rows(
+/// Whether the rows of the blocks at these indices answer the same, one by one. Returns `AllocError` if allocation fails.
+pub(crate) fn have_same_rows(
     alloc: Global,
     old: &[Block<'_>],
     index: usize,

@@ -10,6 +10,7 @@ use crate::compared::{Compared, compared_rows};
 use crate::copied::copied;
 use crate::finder::{Finder, digest_of_blocks};
 use crate::pair::Pair;
+use crate::settled::is_settled;
 use crate::side::rows_at;
 use crate::trials::Trial;
 use std::alloc::{AllocError, Global};
@@ -109,6 +110,9 @@ fn compared_blocks(
     ensures { IfOk result (IsCompared (chosen pair.now.parts.old.items old.now)
         (chosen pair.now.parts.new.items new.now)) }
 {
+    if is_settled(alloc, &pair.parts, &pair.reaches, &pair.twins, old, new)? {
+        return Ok(Compared::Same);
+    }
     let old_rows = rows_at(alloc, &pair.parts.old, old)?;
     let new_rows = rows_at(alloc, &pair.parts.new, new)?;
     let trial = Trial {

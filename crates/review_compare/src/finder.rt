@@ -56,7 +56,9 @@ impl Finder {
 
 // Returns the digest with a further number.
 fn with_number(digest: usize, number: usize) -> usize {
-    (digest ^ number).wrapping_mul(0x9E37_79B1).rotate_left(15)
+    (digest ^ number)
+        .wrapping_mul(0x9E37_79B9_7F4A_7C15)
+        .rotate_left(15)
 }
 
 /// Returns a digest of the indices of blocks of both policies.

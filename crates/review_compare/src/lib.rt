@@ -36,6 +36,7 @@ mod row;
 mod row_reaches;
 mod ruling;
 mod same_runas;
+mod settled;
 mod shape;
 mod shared;
 mod side;

@@ -210,6 +210,9 @@ impl<'r, 'a> Rows<'r, 'a> {
         if !self.covers_old(own, at, at + 1, 0) {
             return Some(None);
         }
+        if self.covers_old(own, at, at + 1, self.new_end) {
+            return None;
+        }
         match self.unlike_from(own, at, 0) {
             Some(other) => Some(Some(other)),
             None => None,

@@ -8,6 +8,7 @@ ghost use Rattle.review_compare.specs.Differences.{known_at};
 ghost use Rattle.review_compare.specs.Body.HostMarks.{HaveHostMarks};
 ghost use Rattle.review_compare.specs.Body.Near.{AreNear, HaveParts, changed_rows};
 ghost use Rattle.review_compare.specs.Body.RowReaches.{HaveReaches};
+ghost use Rattle.review_compare.specs.Body.Settled.{AreTwins};
 ghost use Rattle.review_compare.specs.Body.Unchanged.{AreCommon};
 
 use crate::asks::{group_at, person_at};
@@ -17,6 +18,7 @@ use crate::host_marks::{HostMarks, host_marks};
 use crate::near::{Parts, changed_rows, near_change, parts_near};
 use crate::probes::{Change, Probes};
 use crate::row_reaches::Reaches;
+use crate::settled::twins_of;
 use crate::side::Side;
 use crate::spot::Listed;
 use std::alloc::{AllocError, Global};
@@ -24,7 +26,7 @@ use sudo_match::{Directory, Group, Machine, Person};
 use sudo_verdict::Asker;
 
 /// Two policies, with the known users, hosts and groups, the blocks near a change, the blocks with their near rows alone, what
-/// these give to try, and which of the near blocks list each host.
+/// these give to try, which of them answer alike, and which of the near blocks list each host.
 #[derive(Drop)]
 pub(crate) struct Pair<'a> {
     pub(crate) old: Side<'a>,
@@ -36,6 +38,7 @@ pub(crate) struct Pair<'a> {
     pub(crate) parts: Parts<'a>,
     pub(crate) probes: Probes,
     pub(crate) reaches: Reaches<'a>,
+    pub(crate) twins: Vec<Option<usize>>,
     pub(crate) marks: Vec<HostMarks>,
     ghost are_common: { AreCommon old.checked.now old.blocks.items new.checked.now
         new.blocks.items common },
@@ -44,6 +47,7 @@ pub(crate) struct Pair<'a> {
     ghost old_parts: { HaveParts (changed_rows common old.blocks.items new.blocks.items)
         old.blocks.items parts.old.items },
     ghost are_reaches: { HaveReaches parts reaches },
+    ghost are_twins: { AreTwins parts twins.items },
     ghost new_parts: { HaveParts (changed_rows common old.blocks.items new.blocks.items)
         new.blocks.items parts.new.items },
 }
@@ -84,6 +88,7 @@ impl<'a> Pair<'a> {
         let parts = parts_near(alloc, &old, &new, common)?;
         let probes = probes_near(alloc, &old, &new, common, &parts)?;
         let reaches = Reaches::of(alloc, &old, &new, common, &parts)?;
+        let twins = twins_of(alloc, &parts, common)?;
         let marks = host_marks(alloc, &old, &new, common, &near, directory)?;
         Ok(Pair {
             old,
@@ -95,6 +100,7 @@ impl<'a> Pair<'a> {
             parts,
             probes,
             reaches,
+            twins,
             marks,
         })
     }

@@ -132,6 +132,33 @@ fn count_in(rows: &[RowAt], block: usize) -> usize
 }
 
 impl Fitting {
+    // Returns no rows, with place for those of the blocks.
+    fn none(alloc: Global, blocks: &[Block<'_>]) -> Result<Fitting, AllocError> {
+        Ok(Fitting {
+            rows: Vec::new(alloc),
+            blocks: IndexSet::below(alloc, blocks.len())?,
+        })
+    }
+
+    // Appends the rows of the other's blocks from one on to another, of which the first stands at an index here.
+    fn push_from(
+        &mut self,
+        other: &Fitting,
+        from: usize,
+        end: usize,
+        first: usize,
+    ) -> Result<(), AllocError> {
+        for at in &other.rows {
+            if at.block >= from && at.block < end {
+                let block = (at.block - from).wrapping_add(first);
+                let row = at.row;
+                self.rows.push(RowAt { block, row })?;
+                self.blocks.add(block);
+            }
+        }
+        Ok(())
+    }
+
     /// Returns the rows of a block.
     pub(crate) fn in_block(&self, block: usize) -> &[RowAt] {
         if !self.blocks.has(block) {
@@ -159,19 +186,33 @@ impl Fitting {
     }
 }
 
-// Returns the rows of blocks whose paths fit the command.
-fn fitting_rows(
-    alloc: Global,
-    blocks: &[Block<'_>],
-    command: &[u8],
-) -> Result<Fitting, AllocError> {
-    let mut fitting = Fitting {
-        rows: Vec::new(alloc),
-        blocks: IndexSet::below(alloc, blocks.len())?,
-    };
+// Returns the rows of the old policy whose paths fit the command.
+fn fitting_old(alloc: Global, blocks: &[Block<'_>], command: &[u8]) -> Result<Fitting, AllocError> {
+    let mut fitting = Fitting::none(alloc, blocks)?;
     for block in 0..blocks.len() {
         fitting.push_block(&blocks[block].rows, block, command)?;
     }
+    Ok(fitting)
+}
+
+// Returns the rows of the new policy whose paths fit the command: those of blocks at the front and at the back are where the old policy
+// has them.
+fn fitting_new(
+    alloc: Global,
+    change: &Change<'_, '_, '_>,
+    old: &Fitting,
+    command: &[u8],
+) -> Result<Fitting, AllocError> {
+    let (parts, common) = (change.parts, change.common);
+    let blocks = &parts.new;
+    let mut fitting = Fitting::none(alloc, blocks)?;
+    fitting.push_from(old, 0, common.front, 0)?;
+    let end = blocks.len().saturating_sub(common.back);
+    for block in common.front..end {
+        fitting.push_block(&blocks[block].rows, block, command)?;
+    }
+    let old_end = parts.old.len().saturating_sub(common.back);
+    fitting.push_from(old, old_end, parts.old.len(), end)?;
     Ok(fitting)
 }
 
@@ -201,9 +242,9 @@ pub(crate) fn takes_any(shape: &Shape) -> bool {
 }
 
 // Returns a path with the rows that fit it.
-fn path_of(alloc: Global, parts: &Parts<'_>, text: &[u8]) -> Result<Path, AllocError> {
-    let old = fitting_rows(alloc, &parts.old, text)?;
-    let new = fitting_rows(alloc, &parts.new, text)?;
+fn path_of(alloc: Global, change: &Change<'_, '_, '_>, text: &[u8]) -> Result<Path, AllocError> {
+    let old = fitting_old(alloc, &change.parts.old, text)?;
+    let new = fitting_new(alloc, change, &old, text)?;
     let text = Vec::from_slice(alloc, text)?;
     Ok(Path { text, old, new })
 }
@@ -247,7 +288,7 @@ impl Gathered {
         if !self.spend(tests) {
             return Ok(NO_PATH);
         }
-        let path = path_of(alloc, change.parts, text)?;
+        let path = path_of(alloc, change, text)?;
         self.push_path(path)
     }
 

@@ -29,7 +29,7 @@ pub struct Row {
 }
 
 /// The number of buckets in which the rows of one user are found.
-pub(crate) const BUCKETS: usize = 256;
+pub(crate) const BUCKETS: usize = 1024;
 
 /// In what two rows may differ that become one.
 #[derive(Clone, Copy, Debug, PartialEq, Eq)]

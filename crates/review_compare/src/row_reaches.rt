@@ -5,7 +5,7 @@ ghost use Rattle.review_compare.specs.Cells.{lined_of};
 ghost use Rattle.review_compare.specs.Body.Chosen.{chosen, deciders_at};
 ghost use Rattle.review_compare.specs.Body.Reaches as body;
 ghost use Rattle.review_compare.specs.Body.RowReaches as spec;
-ghost use Rattle.review_compare.specs.Body.Shown.{all_shown, shown};
+ghost use Rattle.review_compare.specs.Body.Shown.{all_shown, is_covered_by, shown};
 ghost use Rattle.review_compare.specs.Body.Trials.{IsTrial};
 
 use crate::alike::{are_same_atoms, is_same_atom};
@@ -124,6 +124,23 @@ impl<'a> RowReaches<'a> {
             }
         }
         0
+    }
+
+    // Whether a row of the blocks at these indices applies wherever this one does.
+    fn is_covered_in(&self, blocks: &[Block<'_>], indices: &[usize]) -> bool
+        requires { spec.AreReaches blocks.now self.now }
+        ensures { result ≡ true
+            → is_covered_by (chosen blocks.now indices.now) (spec.lined_by self.now) ≡ true }
+    {
+        let mut end = indices.len();
+        while end > 0 {
+            end -= 1;
+            let (_, own) = self.in_block(blocks, indices[end]);
+            if own > 0 {
+                return true;
+            }
+        }
+        false
     }
 }
 
@@ -251,6 +268,30 @@ fn index_of(all: &[RowReaches<'_>], row: &Ruled<'_>, likely: usize) -> Option<us
         }
     }
     None
+}
+
+impl Reaches<'_> {
+    /// Whether a row of these blocks of the new policy applies wherever the row does, as far as it was looked up. The reaches at `likely`
+    /// are tried first, and the index behind those that were found is put there.
+    pub(crate) fn is_covered_in(
+        &self,
+        parts: &Parts<'_>,
+        row: &Ruled<'_>,
+        indices: &[usize],
+        likely: &mut usize,
+    ) -> bool
+        requires { spec.HaveReaches parts.now self.now }
+        ensures { result ≡ true
+            → is_covered_by (chosen parts.now.new.items indices.now) (lined_of (shown row.now)) ≡ true }
+    {
+        match index_of(&self.new, row, *likely) {
+            None => false,
+            Some(index) => {
+                *likely = index.wrapping_add(1);
+                self.new[index].is_covered_in(&parts.new, indices)
+            }
+        }
+    }
 }
 
 // Returns how many of the rows, which are those of the blocks at these indices, there are up to the last that applies wherever the row

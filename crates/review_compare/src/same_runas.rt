@@ -121,8 +121,8 @@ impl Side<'_> {
             (question_as directory.now asker.entry.user.now asker.entry.host.now
             (option_copied asker.entry.target) (option_copied asker.entry.group))) listed.now) }
     {
-        let mut answers = Vec::new(alloc);
-        let mut indices = Vec::new(alloc);
+        let mut answers = Vec::with_capacity(alloc, listed.len())?;
+        let mut indices = Vec::with_capacity(alloc, listed.len())?;
         for at in 0..listed.len() {
             let allows = self.answer_at(directory, asker, listed, firsts, &answers, at);
             answers.push(allows)?;

@@ -4,12 +4,15 @@ ghost use Rattle.std.specs.List.{Contains};
 ghost use Rattle.review_compare.specs.declared.cell.Ask.{Ask as TheAsk};
 ghost use Rattle.review_compare.specs.declared.shared.AnsweredAsks.{AnsweredAsks as TheAnsweredAsks};
 ghost use Rattle.review_compare.specs.Body.SharedAsks as body;
-ghost use Rattle.review_compare.specs.Body.Whoever.{AreAnswered, AreFormsIn};
+ghost use Rattle.sudo_verdict.specs.Questions.{Question};
+ghost use Rattle.review_compare.specs.Body.Chosen.{runas_at};
+ghost use Rattle.review_compare.specs.Body.Whoever.{AreAnswered, AreFormsAlike, AreFormsIn};
 
 use crate::ask_class::AskedWith;
 use crate::asks::{group_at, person_at};
 use crate::brief::brief_asks;
 use crate::cell::Ask;
+use crate::common::allow_alike;
 use crate::pair::Pair;
 use crate::spot::Listed;
 use crate::whoever::are_equal;
@@ -56,16 +59,57 @@ fn forms_near(alloc: Global, pair: &Pair<'_>) -> Result<Listed, AllocError>
     Ok(Listed { old, new })
 }
 
+// Whether the runas of a block of the old policy and that of one of the new policy are the same, written out.
+fn allow_alike_at(
+    alloc: Global,
+    pair: &Pair<'_>,
+    index: usize,
+    other: usize,
+) -> Result<bool, AllocError>
+    ensures { IfOk result (λ alike. alike ≡ true → (q : Question)
+        → runas_at pair.now.old.checked.now pair.now.old.blocks.items q index
+        ≡ runas_at pair.now.new.checked.now pair.now.new.blocks.items q other) }
+{
+    match (pair.old.blocks.get(index), pair.new.blocks.get(other)) {
+        (Some(block), Some(counterpart)) => allow_alike(
+            alloc,
+            pair.old.checked,
+            block.runas,
+            pair.new.checked,
+            counterpart.runas,
+        ),
+        _ => Ok(false),
+    }
+}
+
+// Whether these blocks of both policies allow the same, one by one.
+fn are_forms_alike(alloc: Global, pair: &Pair<'_>, forms: &Listed) -> Result<bool, AllocError>
+    ensures { IfOk result (λ alike. alike ≡ true → AreFormsAlike pair.now forms.now) }
+{
+    let (old, new) = (forms.old.as_slice(), forms.new.as_slice());
+    if old.len() != new.len() {
+        return Ok(false);
+    }
+    for at in 0..old.len() {
+        if !allow_alike_at(alloc, pair, old[at], new[at])? {
+            return Ok(false);
+        }
+    }
+    Ok(true)
+}
+
 // Returns what the blocks answer to each user who asks for this, if that is known to be the same. The user and the host are any
-// known ones.
+// known ones. Where the blocks of both policies allow the same, those of the old policy answer for both.
 fn answers_to(
     alloc: Global,
     pair: &Pair<'_>,
     person: &Person,
     machine: &Machine,
     forms: &Listed,
+    are_alike: bool,
     ask: Ask,
 ) -> Result<Option<Answers>, AllocError>
+    requires { are_alike ≡ true → AreFormsAlike pair.now forms.now }
     ensures { IfOk result (λ found. IfSome found (λ answers.
         AreAnswered pair.now forms.now ask answers.old.items answers.new.items)) }
 {
@@ -81,6 +125,10 @@ fn answers_to(
     else {
         return Ok(None);
     };
+    if are_alike {
+        let new = Vec::from_slice(alloc, &old)?;
+        return Ok(Some(Answers { old, new }));
+    }
     let Some(new) = pair
         .new
         .answers_by(alloc, pair.directory, asker, &forms.new)?
@@ -184,11 +232,13 @@ fn split_ask(
     person: &Person,
     machine: &Machine,
     forms: &Listed,
+    are_alike: bool,
     ask: Ask,
     answered: &mut Vec<AnsweredAsks>,
     own: &mut Vec<Ask>,
 ) -> Result<(), AllocError>
-    requires { All (body.IsAnsweredAlike pair.now forms.now) answered.old.items }
+    requires alike { are_alike ≡ true → AreFormsAlike pair.now forms.now }
+    requires answered { All (body.IsAnsweredAlike pair.now forms.now) answered.old.items }
     ensures are { OnOk result (All (body.IsAnsweredAlike pair.entry.now forms.entry.now)
         answered.new.items) }
     ensures has { OnOk result (Contains own.new.items ask
@@ -196,7 +246,7 @@ fn split_ask(
     ensures kept { OnOk result ((a : TheAsk) → (Contains own.old.items a → Contains own.new.items a)
         × (body.HaveAnswered answered.old.items a → body.HaveAnswered answered.new.items a)) }
 {
-    match answers_to(alloc, pair, person, machine, forms, ask)? {
+    match answers_to(alloc, pair, person, machine, forms, are_alike, ask)? {
         Some(answers) => add_answered(alloc, pair, forms, answers, ask, answered),
         None => {
             own.push(ask)?;
@@ -236,6 +286,7 @@ pub(crate) fn split_asks(
     ensures all { IfOk result (λ split. split.all.items ≡ asks.now) }
 {
     let forms = forms_near(alloc, pair)?;
+    let are_alike = are_forms_alike(alloc, pair, &forms)?;
     let mut answered = Vec::new(alloc);
     let mut own = Vec::new(alloc);
     for ask in asks {
@@ -245,6 +296,7 @@ pub(crate) fn split_asks(
             person,
             machine,
             &forms,
+            are_alike,
             *ask,
             &mut answered,
             &mut own,

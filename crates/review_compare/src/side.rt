@@ -217,7 +217,7 @@ impl Side<'_> {
         ensures each { IfOk result (λ indices. list_all (body.user_at self.now.checked.now
             self.now.blocks.items user.now) indices.items ≡ true) }
     {
-        let mut indices = Vec::new(alloc);
+        let mut indices = Vec::with_capacity(alloc, near.len())?;
         for index in near {
             push_if(&mut indices, *index, self.lists_user_at(*index, user))?;
         }
@@ -241,7 +241,7 @@ impl Side<'_> {
         ensures each { IfOk result (λ indices. list_all (body.listed_at self.now.checked.now
             self.now.blocks.items user.now host.now) indices.items ≡ true) }
     {
-        let mut indices = Vec::new(alloc);
+        let mut indices = Vec::with_capacity(alloc, listed.len())?;
         for index in listed {
             push_if(
                 &mut indices,
@@ -265,7 +265,7 @@ impl Side<'_> {
         ensures { IfOk result (λ on. on.items ≡ filter (body.host_at self.now.checked.now
             self.now.blocks.items host.now) indices.now) }
     {
-        let mut on = Vec::new(alloc);
+        let mut on = Vec::with_capacity(alloc, indices.len())?;
         for index in indices {
             push_if(&mut on, *index, self.lists_host_by(marks, *index, host))?;
         }
@@ -316,7 +316,7 @@ pub(crate) fn rows_at<'b>(
 ) -> Result<Vec<Ruled<'b>>, AllocError>
     ensures { IfOk result (λ rows. all_shown rows.items ≡ body.chosen blocks.now indices.now) }
 {
-    let mut rows = Vec::new(alloc);
+    let mut rows = Vec::with_capacity(alloc, indices.len())?;
     for index in indices {
         push_at(blocks, *index, &mut rows)?;
     }

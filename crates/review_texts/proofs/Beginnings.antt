@@ -1,8 +1,9 @@
 -- Texts that no word begins.
-use Rattle.std.proofs.Common.{◌≡◌, ℕ, Bool, true, false, List, [], ◌∷◌, refl, ◌∙◌, ap}
-use Rattle.std.specs.Prelude.{◌&&◌, ◌||◌, ◌==◌, ⊤, nat_eq, slice_index}
+use Rattle.std.proofs.Common.{◌≡◌, ℕ, Bool, true, false, List, [], ◌∷◌, refl, sym, ◌∙◌, ap}
+use Rattle.std.specs.Prelude.{◌&&◌, ◌||◌, ◌==◌, ⊤, codes, nat_eq, slice_index}
 use Rattle.std.specs.List.{list_any, starts_with}
-use Rattle.review_texts.specs.Body.Beginnings.{begins_as, begin_word}
+use Rattle.std.proofs.lemmas.List.Folds.{list_any-append}
+use Rattle.review_texts.specs.Body.Beginnings.{begins_as, begin_word, letter_words}
 use Rattle.review_texts.specs.Words.{begins_word, is_plus_or_caret, words}
 
 apart : (p q more : Bool) → (p && q) ≡ false → (p && (q && more)) ≡ false
@@ -57,3 +58,16 @@ no_word_at first rest text is none =
     let no_sign = or_right (list_any (begins_as first (slice_index rest 0)) words) (is_plus_or_caret first) none in
     ap begins_word is ∙ or_none (list_any (starts_with nat_eq (first ∷ rest)) words) (is_plus_or_caret first)
     (all_none first rest words tt none_as) no_sign
+
+-- The words with a letter, and the two with a percent sign.
+no_more : (p q : Bool) → (p || (q || false)) ≡ (p || q)
+no_more true q = refl
+no_more false true = refl
+no_more false false = refl
+
+pub cut_words : (text : List ℕ) → (list_any (starts_with nat_eq text) letter_words
+    || (starts_with nat_eq text (codes "%:") || starts_with nat_eq text (codes "%h"))) ≡ list_any (starts_with nat_eq text) words
+cut_words text =
+    let whole = list_any-append (starts_with nat_eq text) letter_words (codes "%:" ∷ codes "%h" ∷ []) in
+    let two = no_more (starts_with nat_eq text (codes "%:")) (starts_with nat_eq text (codes "%h")) in
+    sym (whole ∙ ap (λ (b : Bool). list_any (starts_with nat_eq text) letter_words || b) two)

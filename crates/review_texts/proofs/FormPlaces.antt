@@ -23,6 +23,7 @@ use Rattle.review_texts.specs.Digests.{digest_size, digest_start, digest_at, dig
 use Rattle.review_texts.specs.Digests.{may_follow as digest_may_follow, spells_digest}
 use Rattle.review_texts.specs.Expressions.{caret_of, dollar_of, expression_at, holds_expression, is_expression, is_file_at}
 use Rattle.review_texts.specs.Options.{is_option, name_at, equals_of, value_of, value_at, option_end, takes, spells_option}
+use Rattle.review_texts.specs.Hostnames.{spells_escape, StandsName}
 use Rattle.review_texts.specs.Places.{IsRefusedFor, spells_expression, spells_list, may_follow}
 use Rattle.review_texts.specs.Masks.{Stands, is_fit, IsFirstStand, IsMask, IsUnmasked, IsBehind, behind}
 use Rattle.review_texts.proofs.LoneLines.{one_form}
@@ -116,6 +117,18 @@ no_expression text at none spelled =
     && is_blank (slice_index text (at + length (value_at text at)))) || (b == 94)) ≡ true) (past_end text at none) fifth.0 in
     true≢false (sym empty)
 
+no_escape : (text : List ℕ) (at : ℕ) → drop at text ≡ [] → spells_escape text at ≡ true → ⊥
+unfolding spells_escape
+no_escape text at none spelled =
+    let first = and_parts (slice_index text at == 37) (slice_index text (at + 1) == 104) spelled in
+    let empty : (0 == 37) ≡ true = subst (λ (b : ℕ). (b == 37) ≡ true) (past_end text at none) first.0 in
+    true≢false (sym empty)
+
+no_name_stands : (host : Option (List ℕ)) (line : Line) (start end : ℕ) (put : List ℕ) → drop start line.text ≡ []
+    → StandsName host line start end put → ⊥
+no_name_stands None line start end put none stands = stands
+no_name_stands (Some name) line start end put none stands = no_escape line.text start none stands.1.0
+
 no_stand : (r : Readable) (line : Line) (form : Unsupported) (start end : ℕ) (put : List ℕ) → drop start line.text ≡ []
     → Stands r line form start end put → ⊥
 no_stand r line forms.CommandOption start end put none stands = no_option r.noted line.text start none stands.0.spelled
@@ -125,7 +138,7 @@ no_stand r line forms.Netgroup start end put none stands = no_group Net r.netgro
 no_stand r line forms.NonUnixGroup start end put none stands =
     no_group NonUnix r.netgroups.items line.text start none stands.0.spelled
 no_stand r line forms.RegularExpression start end put none stands = no_expression line.text start none stands.1.spelled
-no_stand r line _ start end put none stands = stands
+no_stand r line forms.HostEscape start end put none stands = no_name_stands r.host line start end put none stands
 
 -- A form stands within the line.
 pub stands_within : (r : Readable) (line : Line) (form : Unsupported) (start end : ℕ) (put : List ℕ) → Stands r line form start end put

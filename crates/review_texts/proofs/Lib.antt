@@ -6,6 +6,7 @@ pub mod Blocks
 pub mod Kept
 pub mod Newlines
 pub mod NoPath
+pub mod HostLaws
 pub mod OneMask
 pub mod Beginnings
 pub mod MeaningLemmas

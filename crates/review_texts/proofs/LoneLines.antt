@@ -124,6 +124,20 @@ read_unrefused line entries form are refusal =
 pub one_form : (line : Line) (a b : Unsupported) → IsRefusedFor line a → IsRefusedFor line b → a ≡ b
 one_form line a b is other = let same = same_fault line (faults.Unsupported line.first a) b (fault_of line a is) other in cc
 
+abbrev pub FoundForm : Line → Option Unsupported → Type 0
+FoundForm line found = MatchOption found ((form : Unsupported) → IsRefusedFor line form → ⊥) (λ form. IsRefusedFor line form)
+
+-- A line is refused for the form that is found, and for no other.
+pub form_refused : (line : Line) (found : Option Unsupported) (form : Unsupported) → FoundForm line found → found ≡ Some form
+    → IsRefusedFor line form
+form_refused line None form says e = absurd cc
+form_refused line (Some other) form says e = let same : other ≡ form = cc in subst (IsRefusedFor line) same says
+
+pub refused_found : (line : Line) (found : Option Unsupported) (form : Unsupported) → FoundForm line found → IsRefusedFor line form
+    → found ≡ Some form
+refused_found line None form says is = absurd (says form is)
+refused_found line (Some other) form says is = ap Some (one_form line other form says is)
+
 -- What a call that looks for an entry says, by the entry that it found.
 abbrev pub FoundEntry : Line → Option EntryBody → Type 0
 FoundEntry line found = MatchOption found ((entry : EntryBody) → IsEntryIn line entry → ⊥) (λ entry. IsEntryIn line entry)

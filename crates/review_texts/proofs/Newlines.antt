@@ -4,7 +4,7 @@ use Rattle.std.proofs.Common.{length, drop, take, refl, sym, ◌∙◌, ap, subs
 use Rattle.std.proofs.Common.{Result, Ok, Err, Option, None, Some, inl, inr}
 use Rattle.std.specs.Prelude.{◌==◌, ◌&&◌, not, replicate, nat_le, nat_lt, nat_eq, codes, filter, slice_index, ◌/◌, ◌%◌}
 use Rattle.std.specs.Str.{bytes_eq}
-use Rattle.std.specs.List.{prefix_len, starts_with, take_while}
+use Rattle.std.specs.List.{position_or_len, prefix_len, starts_with, take_while}
 use Rattle.std.proofs.lemmas.Bool.{and_parts, eqb-true, true≢false}
 use Rattle.std.proofs.lemmas.Bool.Decides.{nat_tests}
 use Rattle.std.proofs.lemmas.List.{take-append-drop}
@@ -24,6 +24,8 @@ use Rattle.review_texts.specs.Expressions.{bound_of, caret_of, command_at, digit
 use Rattle.review_texts.specs.Expressions.{hex_digit, hex_of, is_below_folder, is_expression_byte}
 use Rattle.review_texts.specs.Options.{is_value_byte, name_at, value_at, value_of}
 use Rattle.review_texts.specs.Masks.{are_alike, expression_text, is_fit, option_note, note_text, noted_letter, noted_option}
+use Rattle.sudo_match.specs.Matching.{short_name}
+use Rattle.review_texts.specs.Hostnames.{are_labels, is_hostname, is_label_byte, StandsName}
 use Rattle.review_texts.specs.Masks.{replacement, Stands}
 use Rattle.review_texts.specs.Masks.{behind, IsBehind, IsMask, IsMasked, most_masks}
 use Rattle.review_texts.specs.MaskedTexts.{written, tears_defaults, spaced, IsBlock, AreBlocks, IsTextBy, IsMaskedBy, IsMaskedText}
@@ -148,21 +150,65 @@ count_expression text at =
     let joined = count_append (note_text Regex (hex_of (expression_at text at))) (command_at text at) in
     omega (arith, note, command, joined)
 
-count_put : (r : Readable) (line : Line) (form : Unsupported) (start end : ℕ) (put : List ℕ) → Stands r line form start end put
-    → newline_count put ≡ 0
-count_put r line forms.CommandOption start end put stands =
+count_dropped : (n : ℕ) (xs : List ℕ) → newline_count xs ≡ 0 → newline_count (drop n xs) ≡ 0
+count_dropped n xs none =
+    let whole = ap (λ (ys : List ℕ). newline_count ys) (take-append-drop n xs) in
+    let cut = count_append (take n xs) (drop n xs) in
+    omega (arith, none, whole, cut)
+
+label_newline : (b : ℕ) → is_label_byte b ≡ true → (b == 10) ≡ false
+label_newline b is = not_newline is_label_byte b refl is
+
+count_labels : (dotted : Bool) (xs : List ℕ) → are_labels dotted xs ≡ true → newline_count xs ≡ 0
+count_labels dotted [] are = refl
+count_labels dotted (x ∷ xs) are = by (x == 46) refl (λ e. count_labels false xs e) (λ e. count_labels true xs e) are
+  where
+    by : (dot : Bool) → (x == 46) ≡ dot → (are_labels false xs ≡ true → newline_count xs ≡ 0)
+        → (are_labels true xs ≡ true → newline_count xs ≡ 0)
+        → cond dot (dotted && are_labels false xs) (is_label_byte x && are_labels true xs) ≡ true → newline_count (x ∷ xs) ≡ 0
+    by true e dot label are =
+        let parts = and_parts dotted (are_labels false xs) are in
+        let rest = dot parts.1 in
+        let here = count_one x (not_newline (λ b. b == 46) x refl e) in
+        let joined = count_append (x ∷ []) xs in
+        omega (arith, rest, here, joined)
+    by false e dot label are =
+        let parts = and_parts (is_label_byte x) (are_labels true xs) are in
+        let rest = label parts.1 in
+        let here = count_one x (label_newline x parts.0) in
+        let joined = count_append (x ∷ []) xs in
+        omega (arith, rest, here, joined)
+
+count_hostname : (name : List ℕ) → is_hostname name ≡ true → newline_count name ≡ 0
+count_hostname name is =
+    let parts = and_parts (nat_lt 0 (length name) && nat_le (length name) 255) (are_labels false name) is in
+    count_labels false name parts.1
+
+count_named : (host : Option (List ℕ)) (line : Line) (start end : ℕ) (put : List ℕ) → newline_count line.text ≡ 0
+    → StandsName host line start end put → newline_count put ≡ 0
+count_named None line start end put none stands = absurd stands
+count_named (Some name) line start end put none (named, stands, is, text) =
+    let first = count_taken (position_or_len (λ b. b == 46) name) name (count_hostname name named) in
+    let rest = count_dropped (start + 2) line.text none in
+    let joined = count_append (short_name name) (drop (start + 2) line.text ++ codes "  ") in
+    let filled = count_append (drop (start + 2) line.text) (codes "  ") in
+    ap newline_count text ∙ (omega (arith, first, rest, joined, filled))
+
+count_put : (r : Readable) (line : Line) (form : Unsupported) (start end : ℕ) (put : List ℕ) → newline_count line.text ≡ 0
+    → Stands r line form start end put → newline_count put ≡ 0
+count_put r line forms.CommandOption start end put none stands =
     let value = value_at line.text (value_of line.text start) in
     ap newline_count stands.2 ∙ count_option (option_note (name_at line.text start)) (name_at line.text start) value
     (count_front is_value_byte (drop (value_of line.text start) line.text) refl)
-count_put r line forms.List start end put stands = ap newline_count stands.2
-count_put r line forms.Digest start end put stands =
+count_put r line forms.List start end put none stands = ap newline_count stands.2
+count_put r line forms.Digest start end put none stands =
     let digest = digest_at line.text (digest_start line.text start) in
     ap newline_count stands.3 ∙ count_note Digest (filter (λ b. not (b == 61)) digest) (count_kept (λ b. not (b == 61)) digest
     (count_front is_base64 (drop (digest_start line.text start) line.text) refl))
-count_put r line forms.Netgroup start end put stands = stands.0.one_line
-count_put r line forms.NonUnixGroup start end put stands = stands.0.one_line
-count_put r line forms.RegularExpression start end put stands = ap newline_count stands.3 ∙ count_expression line.text start
-count_put r line _ start end put stands = absurd stands
+count_put r line forms.Netgroup start end put none stands = stands.0.one_line
+count_put r line forms.NonUnixGroup start end put none stands = stands.0.one_line
+count_put r line forms.RegularExpression start end put none stands = ap newline_count stands.3 ∙ count_expression line.text start
+count_put r line forms.HostEscape start end put none stands = count_named r.host line start end put none stands
 
 count_replaced : (mask : Mask) → newline_count mask.put ≡ 0 → newline_count (replacement mask) ≡ 0
 count_replaced mask front =
@@ -181,7 +227,7 @@ behind_count r line mask none is =
     let second = ap (λ (xs : List ℕ). newline_count xs) (take-append-drop mask.end line.text) in
     let outer = count_append (take mask.start line.text) (put ++ drop mask.end line.text) in
     let inner = count_append put (drop mask.end line.text) in
-    let middle = count_replaced mask (count_put r line mask.form mask.start mask.end mask.put is.stands.stands) in
+    let middle = count_replaced mask (count_put r line mask.form mask.start mask.end mask.put none is.stands.stands) in
     omega (arith, front, back, first, second, outer, inner, middle)
 
 all_behind : (r : Readable) (n : ℕ) (line masked : Line) → newline_count line.text ≡ 0 → IsBehind r n line masked

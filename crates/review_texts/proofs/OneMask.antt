@@ -1,6 +1,6 @@
 -- A text has one masked text.
 use Rattle.std.proofs.Common.{◌≡◌, ℕ, zero, suc, ◌≤◌, Bool, true, false, List, [], ◌∷◌, ◌++◌, length, drop, sym, ◌∙◌}
-use Rattle.std.proofs.Common.{ap, subst, arith, Result, Ok, Err, inl, inr}
+use Rattle.std.proofs.Common.{ap, subst, arith, Result, Ok, Err, Option, None, Some, inl, inr}
 use Rattle.std.proofs.lemmas.Bool.{cases_lt}
 use Rattle.sudo_text.specs.declared.line.Line.{Line}
 use Rattle.sudo_text.specs.declared.fault.TextFault.{TextFault}
@@ -11,10 +11,17 @@ use Rattle.review_texts.specs.declared.readable.Readable.{Readable}
 use Rattle.review_texts.specs.declared.mask.Mask.{Mask}
 use Rattle.review_texts.specs.declared.netgroups.Group.TheVariants.{Net, NonUnix}
 use Rattle.review_texts.proofs.MemberLists.{one_members}
+use Rattle.review_texts.specs.Hostnames.{StandsName}
 use Rattle.review_texts.specs.Masks.{Stands, behind, IsMask, IsBehind, IsMasked, most_masks}
 use Rattle.review_texts.specs.MaskedTexts.{written, IsBlock, IsBlockBy, IsPlainBlock, AreBlocks, IsTextBy, IsMaskedBy, IsMaskedText}
 use Rattle.review_texts.specs.Words.{has_word}
 use Rattle.review_texts.proofs.LoneLines.{one_form}
+
+one_name_standing : (host : Option (List ℕ)) (line : Line) (start end stop : ℕ) (put other : List ℕ)
+    → StandsName host line start end put → StandsName host line start stop other → (end ≡ stop) × (put ≡ other)
+one_name_standing None line start end stop put other stands again = absurd stands
+one_name_standing (Some name) line start end stop put other (named, stands, is, text) (too, also, same, written) =
+    (is ∙ sym same, text ∙ sym written)
 
 -- A form ends at one place, and one text stands in its place.
 one_standing : (r : Readable) (line : Line) (form : Unsupported) (start end stop : ℕ) (put other : List ℕ)
@@ -30,7 +37,8 @@ one_standing r line forms.NonUnixGroup start end stop put other (stands, is) (ag
     (is ∙ sym same, one_members NonUnix r.netgroups.items line start put other stands.members again.members)
 one_standing r line forms.RegularExpression start end stop put other (on, stands, is, text) (too, again, same, written) =
     (is ∙ sym same, text ∙ sym written)
-one_standing r line _ start end stop put other stands again = absurd stands
+one_standing r line forms.HostEscape start end stop put other stands again =
+    one_name_standing r.host line start end stop put other stands again
 
 not_before : (r : Readable) (line : Line) (a b : Mask) → IsMask r line a → IsMask r line b → a.form ≡ b.form → b.start ≤ a.start
 not_before r line a b is other same = elim (cases_lt a.start b.start) [

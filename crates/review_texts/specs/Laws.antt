@@ -1,5 +1,6 @@
 -- Statements of laws.
-use Rattle.std.specs.Prelude.{◌≡◌, ℕ, false, List, [], ◌∷◌, ◌++◌, length, drop, map, None, Some, Ok}
+use Rattle.std.specs.Prelude.{◌≡◌, ℕ, ◌<◌, ◌+◌, true, false, List, [], ◌∷◌, ◌++◌, length, codes, drop, map, Option, None, Some, Ok}
+use Rattle.std.specs.List.{list_all}
 use Rattle.sudo_text.specs.declared.line.Line.{Line}
 use Rattle.sudo_text.specs.Lines.{lines_of}
 use Rattle.sudo_text.specs.Pieces.{plain}
@@ -7,8 +8,11 @@ use Rattle.sudo_grammar.specs.declared.kind.Atom.{Atom}
 use Rattle.sudo_grammar.specs.declared.kind.Atom.TheVariants as atoms
 use Rattle.sudo_grammar.specs.declared.policy.Entry.{Entry}
 use Rattle.sudo_parser.specs.Parsed.{AreEntries}
-use Rattle.sudo_match.specs.Matching.{command_fits}
-use Rattle.review_texts.specs.Places.{no_path}
+use Rattle.sudo_match.specs.Matching.{command_fits, short_name}
+use Rattle.sudo_grammar.specs.declared.fault.Unsupported.TheVariants as forms
+use Rattle.review_texts.specs.Places.{no_path, IsRefusedFor}
+use Rattle.review_texts.specs.Hostnames.{is_label_byte, StandsName}
+use Rattle.review_texts.specs.Masks.{IsUnmasked, IsMasked}
 use Rattle.review_texts.specs.declared.readable.Readable.{Readable}
 use Rattle.review_texts.specs.Words.{newline_count}
 use Rattle.review_texts.specs.declared.note.Note.{Note}
@@ -52,3 +56,25 @@ noted_command note what = atoms.Command (map plain (note_path note ++ what)) Non
 abbrev pub NotesFitNothing : Type 0
 NotesFitNothing = (note : Note) (what : List ℕ) → (note_in (noted_command note what) ≡ Some note)
     × ((command arguments : List ℕ) → command_fits (noted_command note what) command arguments ≡ false)
+
+-- What stands for `%h`, before the rest of the line and two blanks, is the part of the host's name before its first dot. It is not empty,
+-- and has letters, digits, hyphens and underscores alone: neither a slash nor a dot, so that a path with it names no folder but those that
+-- the policy names.
+abbrev pub NamesStandForEscapes : Type 0
+NamesStandForEscapes = (host : List ℕ) (line : Line) (start end : ℕ) (put : List ℕ) → StandsName (Some host) line start end put
+    → (put ≡ short_name host ++ (drop (start + 2) line.text ++ codes "  ")) × (0 < length (short_name host))
+    × (list_all is_label_byte (short_name host) ≡ true)
+
+-- the same is made readable, but of the host of this name, if one is given
+abbrev pub on_host : Option (List ℕ) → Readable → Readable
+on_host host r = record r { host = host }
+
+-- a line without a mask, where no host is given, has none with a host either, unless it is refused for `%h`
+abbrev pub UnmaskedWithHost : Type 0
+UnmaskedWithHost = (r : Readable) (host : Option (List ℕ)) (line : Line) → r.host ≡ None
+    → (IsRefusedFor line forms.HostEscape → ⊥) → IsUnmasked r line → IsUnmasked (on_host host r) line
+
+-- a line behind its masks, where no host is given, is the line behind its masks with a host too, unless it is refused for `%h`
+abbrev pub MaskedWithHost : Type 0
+MaskedWithHost = (r : Readable) (host : Option (List ℕ)) (line masked : Line) → r.host ≡ None
+    → (IsRefusedFor masked forms.HostEscape → ⊥) → IsMasked r line masked → IsMasked (on_host host r) line masked

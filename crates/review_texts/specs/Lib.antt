@@ -4,6 +4,7 @@ pub mod Digests
 pub mod Expressions
 pub mod Meaning
 pub mod Places
+pub mod Hostnames
 pub mod Masks
 pub mod Notes
 pub mod Netgroups

@@ -20,6 +20,7 @@ use Rattle.review_texts.specs.Options.{name_at, option_end, value_at, value_of}
 use Rattle.review_texts.specs.Digests.{digest_at, digest_end, digest_start}
 use Rattle.review_texts.specs.Expressions.{command_at, dollar_of, expression_at, hex_of}
 use Rattle.review_texts.specs.Netgroups.{group_end}
+use Rattle.review_texts.specs.Hostnames.{StandsName}
 use Rattle.review_texts.specs.declared.netgroups.Group.{Group}
 use Rattle.review_texts.specs.declared.netgroups.Group.TheVariants.{Net, NonUnix}
 use Rattle.review_texts.specs.Places.{IsRefusedFor, with_text, no_path}
@@ -67,7 +68,8 @@ StandsAs group r line start end put =
     StandsGroup group r.netgroups.items line start put × (end ≡ group_end group line.text start)
 
 -- a form stands from an offset up to another, and this stands in its place: a note for a digest and for some options, a note and
--- a command for a regular expression, a path that no command has for `list`, and the members of a netgroup or a non-Unix group
+-- a command for a regular expression, a path that no command has for `list`, the members of a netgroup or a non-Unix group, and the
+-- host's name for `%h`
 abbrev pub Stands : Readable → Line → Unsupported → ℕ → ℕ → List ℕ → Type 0
 Stands r line forms.CommandOption start end put =
     StandsOption r.noted line start × (end ≡ suc (option_end line.text start)) × (put ≡ option_text line.text start)
@@ -78,7 +80,7 @@ Stands r line forms.Netgroup start end put = StandsAs Net r line start end put
 Stands r line forms.NonUnixGroup start end put = StandsAs NonUnix r line start end put
 Stands r line forms.RegularExpression start end put =
     (r.noted ≡ true) × StandsExpression line start × (end ≡ dollar_of line.text start + 1) × (put ≡ expression_text line.text start)
-Stands r line _ start end put = ⊥
+Stands r line forms.HostEscape start end put = StandsName r.host line start end put
 
 -- two physical lines are joined where neither a blank nor a comma stands before the join, or an escaped one, or where a
 -- colon stands behind it: sudo may separate words there, or want both on one line

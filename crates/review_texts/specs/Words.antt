@@ -1,12 +1,12 @@
 -- The words without which nothing of a text is written otherwise: the names of options and of digests, `list`, the word of a
--- Defaults line with a backslash, the mark of a non-Unix group, the plus sign of a netgroup, and the caret of a regular expression.
+-- Defaults line with a backslash, the mark of a non-Unix group, `%h`, the plus sign of a netgroup, and the caret of a regular expression.
 use Rattle.std.specs.Prelude.{ℕ, Bool, false, ◌||◌, ◌==◌, nat_eq, List, [], ◌∷◌, codes, count_by, slice_index}
 use Rattle.std.specs.List.{list_any, starts_with}
 
 abbrev pub words : List (List ℕ)
 words = codes "list" ∷ codes "CWD" ∷ codes "TIMEOUT" ∷ codes "ROLE" ∷ codes "TYPE" ∷ codes "CHROOT" ∷ codes "NOTBEFORE"
     ∷ codes "NOTAFTER" ∷ codes "sha224:" ∷ codes "sha256:" ∷ codes "sha384:" ∷ codes "sha512:" ∷ codes "Defaults\\"
-    ∷ codes "%:" ∷ []
+    ∷ codes "%:" ∷ codes "%h" ∷ []
 
 abbrev pub is_plus_or_caret : ℕ → Bool
 is_plus_or_caret b = (b == 43) || (b == 94)

@@ -1,5 +1,6 @@
 //! Laws of masks.
 ghost use Rattle.review_texts.specs.Laws.{ReadIsLeft, LinesStay, CountStays, OneMaskedText, NothingFits, NotesFitNothing};
+ghost use Rattle.review_texts.specs.Laws.{MaskedWithHost, NamesStandForEscapes, UnmaskedWithHost};
 ghost use Rattle.review_texts.specs.Meaning.{BoundsHold, EachIsExpression};
 
 /// The text of a file that the fixed parser reads is left alone, byte for byte.
@@ -26,6 +27,17 @@ pub fn no_command_is_listed()
 /// No command fits what stands for a note.
 pub fn notes_fit_nothing()
     ensures { NotesFitNothing }
+{}
+
+/// What stands in place of `%h` is the part of the host's name before its first dot, and leads to no folder.
+pub fn names_stand_for_escapes()
+    ensures { NamesStandForEscapes }
+{}
+
+/// The name of a host changes nothing of a line that is not refused for `%h`, behind its masks.
+pub fn hosts_matter_for_escapes()
+    ensures unmasked { UnmaskedWithHost }
+    ensures masked { MaskedWithHost }
 {}
 
 /// Each text that is read as a regular expression is written as one.

@@ -5,6 +5,7 @@ mod bytes;
 mod digests;
 mod expressions;
 mod files;
+mod hostnames;
 mod laws;
 mod listed;
 mod mask;
@@ -20,9 +21,10 @@ mod texts;
 mod words;
 
 pub use files::Masked;
+pub use hostnames::{is_hostname, short_name};
 pub use laws::{
-    bounds_hold, each_is_expression, lines_stay, no_command_is_listed, notes_fit_nothing,
-    read_lines_are_left_alone, texts_have_one_mask,
+    bounds_hold, each_is_expression, hosts_matter_for_escapes, lines_stay, names_stand_for_escapes,
+    no_command_is_listed, notes_fit_nothing, read_lines_are_left_alone, texts_have_one_mask,
 };
 pub use mask::Mask;
 pub use masks::{as_written, mask_line, mask_of};

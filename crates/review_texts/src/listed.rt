@@ -1,5 +1,5 @@
 //! Where a netgroup or a non-Unix group stands, and in which list.
-ghost use Rattle.std.specs.Prelude.{◌≡◌, ℕ, ◌≤◌, ◌+◌, ◌++◌, List, Decides, IfOk, MatchOption, IsTrue, length, take, true};
+ghost use Rattle.std.specs.Prelude.{◌≡◌, ℕ, ◌≤◌, ◌+◌, List, Decides, IfOk, MatchOption, IsTrue, length, true};
 ghost use Rattle.std.specs.Option.{option_copied};
 ghost use Rattle.sudo_grammar.specs.declared.policy.EntryBody.{EntryBody as AnEntry};
 ghost use Rattle.review_texts.specs.declared.netgroups.Members.{Members as TheMembers};
@@ -7,23 +7,12 @@ ghost use Rattle.review_texts.specs.Places as spec;
 
 use crate::bytes::newline_count;
 use crate::netgroups::{Group, Members, group_at, list_for, sign_at, spells_group};
-use crate::places::{last_spec, with_text};
+use crate::places::{last_spec, line_with};
 use crate::reading::{entry_in, is_bad_number};
 use audit_files::Triple;
 use std::alloc::{AllocError, Global};
 use sudo_grammar::EntryBody;
 use sudo_text::{Line, Seq, TEXT_LIMIT};
-
-// Returns the line up to an offset, with this there.
-fn line_with(alloc: Global, line: &Line, at: usize, put: &[u8]) -> Result<Line, AllocError>
-    requires { at ≤ length line.now.text }
-    ensures front { IfOk result (λ front. front ≡ spec.line_with line.now at put.now) }
-    ensures short { IfOk result (λ front. length front.text ≤ at + length put.now) }
-{
-    let mut text = Seq::from_slice(alloc, &line.text.as_slice()[..at])?;
-    text.extend_from_slice(put)?;
-    Ok(with_text(alloc, line, text))
-}
 
 // Whether a member of a list of users is read at an offset.
 fn takes_user(alloc: Global, line: &Line, at: usize) -> Result<bool, AllocError>

@@ -1,5 +1,5 @@
 //! Where a form stands that can be masked.
-ghost use Rattle.std.specs.Prelude.{◌≡◌, ℕ, ◌≤◌, ◌+◌, length, take, IfOk, MatchOption, IsTrue, true};
+ghost use Rattle.std.specs.Prelude.{◌≡◌, ℕ, ◌≤◌, ◌+◌, ◌++◌, length, take, IfOk, MatchOption, IsTrue, true};
 ghost use Rattle.std.specs.Option.{option_copied};
 ghost use Rattle.sudo_grammar.specs.declared.policy.EntryBody.{EntryBody as AnEntry};
 ghost use Rattle.review_texts.specs.Places as spec;
@@ -102,6 +102,22 @@ fn line_before(alloc: Global, line: &Line, at: usize) -> Result<Line, AllocError
         ≡ spec.with_text line.now (take at line.now.text)) }
 {
     let text = Seq::from_slice(alloc, &line.text.as_slice()[..at])?;
+    Ok(with_text(alloc, line, text))
+}
+
+/// Returns the line up to an offset, with this there.
+pub(crate) fn line_with(
+    alloc: Global,
+    line: &Line,
+    at: usize,
+    put: &[u8],
+) -> Result<Line, AllocError>
+    requires { at ≤ length line.now.text }
+    ensures front { IfOk result (λ front. front ≡ spec.line_with line.now at put.now) }
+    ensures short { IfOk result (λ front. length front.text ≤ at + length put.now) }
+{
+    let mut text = Seq::from_slice(alloc, &line.text.as_slice()[..at])?;
+    text.extend_from_slice(put)?;
     Ok(with_text(alloc, line, text))
 }
 

@@ -1,6 +1,7 @@
 //! What of a policy is made readable.
 
 use audit_files::Triple;
+use sudo_text::Seq;
 
 /// What is made readable besides options of a command and `list`.
 #[derive(Debug, Drop)]
@@ -9,4 +10,6 @@ pub struct Readable {
     pub noted: bool,
     /// The triples of the netgroups, and of the non-Unix groups, whose members are read in their place.
     pub netgroups: Vec<Triple>,
+    /// The name of the host whose part before the first dot is read in place of `%h` in the path of an include line.
+    pub host: Option<Seq<u8>>,
 }

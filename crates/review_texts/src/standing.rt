@@ -1,13 +1,16 @@
 //! Where a form stands, and what stands in its place.
 ghost use Rattle.std.specs.Prelude.{◌≡◌, ℕ, ◌≤◌, ◌+◌, ◌++◌, ◌∷◌, ◌==◌, [], List, IfOk};
-ghost use Rattle.std.specs.Prelude.{MatchOption, OnOk, length, filter, if◌then◌else◌, not};
+ghost use Rattle.std.specs.Prelude.{MatchOption, OnOk, Some, length, filter, if◌then◌else◌, not};
 ghost use Rattle.review_texts.specs.Masks as spec;
+ghost use Rattle.review_texts.specs.Hostnames as hosts;
+ghost use Rattle.review_texts.specs.Hostnames.{StandsName};
 ghost use Rattle.review_texts.specs.Masks.{Stands};
 ghost use Rattle.review_texts.specs.Notes.{note_path};
 
-use crate::bytes::is_text;
+use crate::bytes::{from, is_text};
 use crate::digests::{digest_at, digest_end, digest_start};
 use crate::expressions::{command_at, dollar_of, expression_at, push_hex};
+use crate::hostnames::{escape_stands, is_hostname, short_name};
 use crate::listed::group_members;
 use crate::netgroups::{Group, group_end};
 use crate::options::{name_at, option_end, value_at, value_of};
@@ -130,6 +133,17 @@ fn expression_text(alloc: Global, text: &[u8], at: usize) -> Result<Seq<u8>, All
     Ok(put)
 }
 
+// Returns what stands for `%h` at an offset of a text, up to its end, if this is the name of the host.
+fn named_text(alloc: Global, name: &[u8], text: &[u8], at: usize) -> Result<Seq<u8>, AllocError>
+    requires { at ≤ length text.now }
+    ensures { IfOk result (λ put. put ≡ hosts.named_text name.now text.now at) }
+{
+    let mut put = Seq::from_slice(alloc, short_name(name))?;
+    put.extend_from_slice(from(text, at + 2))?;
+    put.extend_from_slice(b"  ")?;
+    Ok(put)
+}
+
 // Returns the end of the option at an offset, and what stands in its place, if it stands there.
 fn option_standing(
     alloc: Global,
@@ -241,6 +255,48 @@ fn group_standing(
     Ok(Some(Standing { end, put }))
 }
 
+// The same of `%h`, up to the end of the line.
+fn host_standing(
+    alloc: Global,
+    readable: &Readable,
+    line: &Line,
+    at: usize,
+) -> Result<Option<Standing>, AllocError>
+    requires within { at ≤ length line.now.text }
+    requires short { length line.now.text + 16 ≤ TEXT_LIMIT }
+    ensures { IfOk result (λ found. MatchOption found
+        ((end : ℕ) (put : List ℕ)
+        → Stands readable.now line.now Unsupported.HostEscape at end put → ⊥)
+        (λ s. Stands readable.now line.now Unsupported.HostEscape at s.end s.put)) }
+{
+    match &readable.host {
+        Some(host) => named_standing(alloc, host.as_slice(), line, at),
+        None => Ok(None),
+    }
+}
+
+// The same, where this is the name of the host.
+fn named_standing(
+    alloc: Global,
+    name: &[u8],
+    line: &Line,
+    at: usize,
+) -> Result<Option<Standing>, AllocError>
+    requires within { at ≤ length line.now.text }
+    requires short { length line.now.text + 16 ≤ TEXT_LIMIT }
+    ensures { IfOk result (λ found. MatchOption found
+        ((end : ℕ) (put : List ℕ) → StandsName (Some name.now) line.now at end put → ⊥)
+        (λ s. StandsName (Some name.now) line.now at s.end s.put)) }
+{
+    if !is_hostname(name) || !escape_stands(alloc, line, at)? {
+        return Ok(None);
+    }
+    let text = line.text.as_slice();
+    let put = named_text(alloc, name, text, at)?;
+    let end = text.len();
+    Ok(Some(Standing { end, put }))
+}
+
 /// Returns the end of a form that begins at an offset, and what stands in its place, if it stands there. Returns `AllocError` if
 /// allocation fails.
 pub(crate) fn stands(
@@ -263,6 +319,6 @@ pub(crate) fn stands(
         Unsupported::Netgroup => group_standing(alloc, Group::Net, readable, line, at),
         Unsupported::NonUnixGroup => group_standing(alloc, Group::NonUnix, readable, line, at),
         Unsupported::RegularExpression => expression_standing(alloc, readable, line, at),
-        _ => Ok(None),
+        Unsupported::HostEscape => host_standing(alloc, readable, line, at),
     }
 }

@@ -1,5 +1,6 @@
 //! The words without which nothing of a text is written otherwise.
-ghost use Rattle.std.specs.Prelude.{◌≡◌, ◌∷◌, slice_index};
+ghost use Rattle.std.specs.Prelude.{◌≡◌, ◌∷◌, ◌||◌, codes, nat_eq, slice_index};
+ghost use Rattle.std.specs.List.{list_any, starts_with};
 ghost use Rattle.review_texts.specs.Body.Beginnings as beginnings;
 ghost use Rattle.review_texts.specs.Words as spec;
 
@@ -17,7 +18,7 @@ fn begin_word(first: u8, rest: &[u8]) -> bool
         b'N' => peek(rest, 0) == b'O',
         b's' => peek(rest, 0) == b'h',
         b'D' => peek(rest, 0) == b'e',
-        b'%' => peek(rest, 0) == b':',
+        b'%' => peek(rest, 0) == b':' || peek(rest, 0) == b'h',
         b'+' | b'^' => true,
         _ => false,
     }
@@ -30,9 +31,17 @@ fn is_plus_or_caret(byte: u8) -> bool
     byte == b'+' || byte == b'^'
 }
 
-// Whether one of the words begins a text, or a plus sign or a caret.
-fn begins_word(text: &[u8]) -> bool
-    ensures { result ≡ spec.begins_word text.now }
+// Whether one of the words with a percent sign begins a text.
+fn begins_percent(text: &[u8]) -> bool
+    ensures { result ≡ (starts_with nat_eq text.now (codes "%:")
+        || starts_with nat_eq text.now (codes "%h")) }
+{
+    text.starts_with(b"%:") || text.starts_with(b"%h")
+}
+
+// Whether one of the words with a letter begins a text.
+fn begins_letters(text: &[u8]) -> bool
+    ensures { result ≡ list_any (starts_with nat_eq text.now) beginnings.letter_words }
 {
     text.starts_with(b"list")
         || text.starts_with(b"CWD")
@@ -47,8 +56,14 @@ fn begins_word(text: &[u8]) -> bool
         || text.starts_with(b"sha384:")
         || text.starts_with(b"sha512:")
         || text.starts_with(b"Defaults\\")
-        || text.starts_with(b"%:")
-        || is_plus_or_caret(peek(text, 0))
+}
+
+// Whether one of the words begins a text, or a plus sign or a caret.
+#[tactic(auto, using(crate::proofs::Beginnings::cut_words))]
+fn begins_word(text: &[u8]) -> bool
+    ensures { result ≡ spec.begins_word text.now }
+{
+    begins_letters(text) || begins_percent(text) || is_plus_or_caret(peek(text, 0))
 }
 
 // Whether one of the words begins a text, of which these are the first byte and what follows.

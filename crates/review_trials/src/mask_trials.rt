@@ -6,8 +6,8 @@ use std::alloc::{AllocError, Global};
 use std::test::Fail;
 use sudo_text::Seq;
 
-// Returns that notes are read, and three netgroups: of users on hosts, of capital letters, and without members; and two non-Unix
-// groups.
+// Returns that notes are read, and three netgroups: of users on hosts, of capital letters, and without members; two non-Unix groups;
+// and the name of a host.
 fn readable(alloc: Global) -> Result<Readable, AllocError> {
     let mut netgroups = Vec::new(alloc);
     for (netgroup, host, user) in [
@@ -25,9 +25,11 @@ fn readable(alloc: Global) -> Result<Readable, AllocError> {
             user: Seq::from_slice(alloc, user.as_bytes())?,
         })?;
     }
+    let host = Some(Seq::from_slice(alloc, b"web1.example.org")?);
     Ok(Readable {
         noted: true,
         netgroups,
+        host,
     })
 }
 
@@ -214,10 +216,48 @@ fn notes_are_refused_where_none_is_wanted(rt: HostRuntime) -> Result<(), Fail> {
     let readable = Readable {
         noted: false,
         netgroups: Vec::new(alloc),
+        host: None,
     };
     for text in ["u ALL = CHROOT=/x /b", "u ALL = NOTAFTER=2026010100Z /b"] {
         let masked = mask_text(alloc, &readable, Seq::from_slice(alloc, text.as_bytes())?)?;
         assert!(rt; masked.as_slice() == text.as_bytes());
+    }
+    Ok(())
+}
+
+#[test]
+fn an_escape_becomes_the_name_of_the_host(rt: HostRuntime) -> Result<(), Fail> {
+    let rows = [
+        ("@include /etc/sudoers.%h\n", "@include /etc/sudoers.web1  \n"),
+        (
+            "a ALL = b\n#includedir \"d/%h.%h\" # %h\n",
+            "a ALL = b\n#includedir \"d/web1.web1\" # %h    \n",
+        ),
+        ("@include \\%h", "@include \\%h"),
+        ("@include \\%%h", "@include \\%web1  "),
+        ("@include %h x", "@include %h x"),
+    ];
+    assert!(rt; are_masked(rt.alloc(), &rows)?);
+    Ok(())
+}
+
+#[test]
+fn an_escape_stays_without_the_name_of_a_host(rt: HostRuntime) -> Result<(), Fail> {
+    let alloc = rt.alloc();
+    for host in [
+        None,
+        Some(Seq::from_slice(alloc, b"a/b")?),
+        Some(Seq::from_slice(alloc, b"..")?),
+        Some(Seq::from_slice(alloc, b"")?),
+    ] {
+        let readable = Readable {
+            noted: true,
+            netgroups: Vec::new(alloc),
+            host,
+        };
+        let text = Seq::from_slice(alloc, b"@include /etc/sudoers.%h")?;
+        let masked = mask_text(alloc, &readable, text)?;
+        assert!(rt; masked.as_slice() == b"@include /etc/sudoers.%h".as_slice());
     }
     Ok(())
 }

@@ -1,5 +1,5 @@
 -- The contracts of the loading and of the check of a policy from those of their parts.
-use Rattle.std.proofs.Common.{◌≡◌, ℕ, List, Option, Some, Result, Ok, Err, inr, refl}
+use Rattle.std.proofs.Common.{◌≡◌, ℕ, List, Option, Some, Result, Ok, Err, inl, inr, refl}
 use Rattle.std.specs.Prelude.{IfErr}
 use Rattle.sudo_grammar.specs.declared.policy.Policy.{Policy}
 use Rattle.sudo_load.specs.Load.{IsLoad}
@@ -30,8 +30,8 @@ not_passed_of held path policy (Err fault) loaded h = not_passed held path polic
 -- What is needed is not handed in.
 pub wanted_unread : (held : Holdings) (path : List ℕ) (want : Want) (read : List (List ℕ))
     (fault : PolicyFault) → EndsIn held path read (load_faults.Wanted want) → IsNotHanded held want fault → IsNoPolicy held path fault
-wanted_unread held path want read (faults.CannotRead unread why) ends not = inr (want, not.0, not.1, (read, ends))
-wanted_unread held path want read (faults.TooLong long) ends not = (not.1, inr (want, not.0, (read, ends)))
+wanted_unread held path want read (faults.CannotRead unread why) ends not = inl (inr (want, not.0, (read, ends)), not.1)
+wanted_unread held path want read (faults.TooLong long) ends not = (inr (want, not.0, (read, ends)), not.1)
 wanted_unread held path want read faults.Memory ends not = tt
 wanted_unread held path want read (faults.Refused files fault text) ends not = absurd not
 wanted_unread held path want read (faults.Errors lines) ends not = absurd not

@@ -63,7 +63,7 @@ pub record EndsInFault {F : Type 0} (told : Notices F) (Bad : F → Type 0) (sta
   pub bad : Bad fault
   pub well : IsWell out
   pub nothing : HasWrittenNothing out
-  pub printed_fault : IsFaultPrinted told fault status err
+  pub printed_fault : PrintsOrNoMemory told.program (told.status fault) (told.printed fault) status err
 
 -- a write failed: of a text that the run may print, `out` received the first bytes, as many as the
 -- line on `err` says and not all

@@ -9,12 +9,9 @@ use Rattle.run_base.specs.declared.fault.PolicyFault.TheVariants as policies
 -- 1: the policy is refused or has errors. 4: reading, writing or memory failed.
 
 abbrev pub policy_status : PolicyFault → ℕ
-policy_status (policies.Refused read fault text) = 1
-policy_status (policies.Errors lines) = 1
-policy_status (policies.TooLong path) = 1
-policy_status policies.TooManyFiles = 1
 policy_status (policies.CannotRead path why) = 4
 policy_status policies.Memory = 4
+policy_status fault = 1
 
 abbrev pub open_status : OpenFault → ℕ
 open_status fault = 4

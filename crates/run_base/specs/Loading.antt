@@ -7,7 +7,6 @@ use Rattle.sudo_grammar.specs.declared.policy.Policy.{Policy}
 use Rattle.sudo_load.specs.declared.fault.LoadFault.{LoadFault}
 use Rattle.sudo_load.specs.declared.fault.LoadFault.TheVariants as load_faults
 use Rattle.sudo_load.specs.declared.fault.Want.{Want}
-use Rattle.sudo_load.specs.declared.fault.Want.TheVariants as wants
 use Rattle.sudo_load.specs.declared.supply.Supply.{Supply}
 use Rattle.sudo_load.specs.Load.{IsLoad}
 use Rattle.sudo_policy.specs.Checking.{FailsCheck, Passes}
@@ -15,6 +14,7 @@ use Rattle.sudo_policy.specs.declared.finding.Finding.{Finding}
 use Rattle.sudo_text.specs.declared.fault.TextFault.{TextFault}
 use Rattle.sudo_text.specs.declared.fault.TextFault.TheVariants as texts
 use Rattle.sudo_text.specs.declared.line.Place.{Place}
+use Rattle.run_base.specs.FaultTexts.{wanted_path}
 use Rattle.run_base.specs.FindingLines.{finding_lines}
 use Rattle.run_base.specs.Holding.{AreHeld, Holdings, file_at}
 use Rattle.run_base.specs.declared.fault.PolicyFault.{PolicyFault}
@@ -33,18 +33,14 @@ IsLoaded held path policy = (text : List ℕ) × (handed : List Supply) × IsLoa
 
 -- the content of the files is refused: no further file is needed, and allocation did not fail
 abbrev pub IsOfContent : LoadFault → Type 0
-IsOfContent (load_faults.Parse fault) = ⊤
-IsOfContent (load_faults.TooNested place) = ⊤
-IsOfContent (load_faults.TooMany place) = ⊤
-IsOfContent (load_faults.Missing place path) = ⊤
 IsOfContent (load_faults.Wanted want) = ⊥
 IsOfContent load_faults.Memory = ⊥
+IsOfContent fault = ⊤
 
 -- the text of the main file, and what was handed in of the files that exist, end in this fault;
 -- `read` are the paths of the files that were read until then
 abbrev pub EndsIn : Holdings → List ℕ → List (List ℕ) → LoadFault → Type 0
-EndsIn held path read fault =
-    (text : List ℕ) × (handed : List Supply) × held.is_file path (Some text) × AreHeld held handed
+EndsIn held path read fault = (text : List ℕ) × (handed : List Supply) × held.is_file path (Some text) × AreHeld held handed
     × IsLoad path text handed (Err (read, fault))
 
 -- the place of a fault of a text, if it is in a line
@@ -69,11 +65,7 @@ parse_place parses.Memory = None
 -- the place of a fault in a line
 abbrev pub fault_place : LoadFault → Option Place
 fault_place (load_faults.Parse fault) = parse_place fault
-fault_place (load_faults.TooNested place) = None
-fault_place (load_faults.TooMany place) = None
-fault_place (load_faults.Missing place path) = None
-fault_place (load_faults.Wanted want) = None
-fault_place load_faults.Memory = None
+fault_place fault = None
 
 -- the text of the file of this number, given the text of the main file, what was handed in, and the paths of the files
 abbrev pub text_of_file : List ℕ → List Supply → List (List ℕ) → ℕ → Option (List ℕ)
@@ -86,35 +78,22 @@ text_at_fault main handed read fault = option_and_then (λ place. text_of_file m
 
 -- the files unfold to no policy, for this reason, which is their content; `faulty` is the text of the file in which it is
 abbrev pub IsUnloaded : Holdings → List ℕ → List (List ℕ) → LoadFault → Option (List ℕ) → Type 0
-IsUnloaded held path read fault faulty =
-    IsOfContent fault × ((text : List ℕ) × (handed : List Supply) × held.is_file path (Some text) × AreHeld held handed
-    × IsLoad path text handed (Err (read, fault)) × (faulty ≡ text_at_fault text handed read fault))
+IsUnloaded held path read fault faulty = IsOfContent fault × ((text : List ℕ) × (handed : List Supply) × held.is_file path (Some text)
+    × AreHeld held handed × IsLoad path text handed (Err (read, fault)) × (faulty ≡ text_at_fault text handed read fault))
 
--- the path of a file or a folder that is needed
-abbrev pub path_of : Want → List ℕ
-path_of (wants.File path) = path
-path_of (wants.Folder path) = path
+-- the path is that of the main file, or it is needed after what was handed in
+abbrev pub IsNeeded : Holdings → List ℕ → List ℕ → Type 0
+IsNeeded held path needed = (needed ≡ path) ⊎ ((want : Want) × (needed ≡ wanted_path want)
+    × ((read : List (List ℕ)) × EndsIn held path read (load_faults.Wanted want)))
 
--- the path is needed after what was handed in, and this keeps it from being read
-abbrev pub IsUnreadWant : Holdings → List ℕ → List ℕ → Obstacle → Type 0
-IsUnreadWant held path unread why =
-    (want : Want) × (unread ≡ path_of want) × held.is_unreadable unread why
-    × ((read : List (List ℕ)) × EndsIn held path read (load_faults.Wanted want))
-
--- this keeps the main file from being read, or it does not exist
-abbrev pub IsUnreadMain : Holdings → List ℕ → List ℕ → Obstacle → Type 0
-IsUnreadMain held path unread why =
-    (unread ≡ path) × (held.is_unreadable path why ⊎ (held.is_file path None × (why ≡ obstacles.NotFound)))
-
--- the path cannot be read, for this reason: it is that of the main file, or it is needed after what was read
+-- a needed path cannot be read, for this reason; or it is that of the main file, which does not exist
 abbrev pub IsUnreadPath : Holdings → List ℕ → List ℕ → Obstacle → Type 0
-IsUnreadPath held path unread why = IsUnreadMain held path unread why ⊎ IsUnreadWant held path unread why
+IsUnreadPath held path unread why = (IsNeeded held path unread × held.is_unreadable unread why)
+    ⊎ ((unread ≡ path) × held.is_file path None × (why ≡ obstacles.NotFound))
 
--- the file at a path is too long: it is the main file, or it is needed after what was handed in
+-- the file at a needed path is too long
 abbrev pub IsLongPath : Holdings → List ℕ → List ℕ → Type 0
-IsLongPath held path long =
-    held.is_long long × ((long ≡ path) ⊎ ((want : Want) × (long ≡ path_of want)
-    × ((read : List (List ℕ)) × EndsIn held path read (load_faults.Wanted want))))
+IsLongPath held path long = IsNeeded held path long × held.is_long long
 
 -- the most files and folders that are handed in
 abbrev pub most_supplies : ℕ
@@ -151,11 +130,7 @@ AreErrorsOf policy lines = (found : List Finding) × FailsCheck policy found × 
 abbrev pub AreErrors : Holdings → List ℕ → List ℕ → Type 0
 AreErrors held path lines = (policy : Policy) × IsLoaded held path policy × AreErrorsOf policy lines
 
--- why no policy passes the check: there is no policy, or it has errors
+-- why no policy passes the check: it has errors, or there is no policy
 abbrev pub IsNotChecked : Holdings → List ℕ → PolicyFault → Type 0
-IsNotChecked held path (faults.Refused files fault text) = IsNoPolicy held path (faults.Refused files fault text)
-IsNotChecked held path (faults.CannotRead unread why) = IsNoPolicy held path (faults.CannotRead unread why)
-IsNotChecked held path (faults.TooLong long) = IsNoPolicy held path (faults.TooLong long)
-IsNotChecked held path faults.TooManyFiles = IsNoPolicy held path faults.TooManyFiles
-IsNotChecked held path faults.Memory = ⊤
 IsNotChecked held path (faults.Errors lines) = AreErrors held path lines.items
+IsNotChecked held path fault = IsNoPolicy held path fault

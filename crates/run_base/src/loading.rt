@@ -5,7 +5,8 @@ ghost use Rattle.audit_files.specs.Places as places;
 ghost use Rattle.sudo_load.specs.Supplies.{file_in};
 ghost use Rattle.run_base.specs.Holding.{AreHeld, IsFileFault, IsHeld, file_at};
 ghost use Rattle.run_base.specs.Loading.{IsChecked, IsLoaded, IsLoadedFrom, IsNoPolicy, IsNotChecked, fault_place};
-ghost use Rattle.run_base.specs.Loading.{path_of, text_at_fault, text_of_file as spec_text_of_file};
+ghost use Rattle.run_base.specs.FaultTexts.{wanted_path};
+ghost use Rattle.run_base.specs.Loading.{text_at_fault, text_of_file as spec_text_of_file};
 ghost use Rattle.run_base.specs.Body.Loading.{IsNotCheckedOf, IsNotHanded, IsUnfetched};
 
 use crate::fault::PolicyFault;
@@ -65,7 +66,7 @@ fn fetch<F: Files>(
     ensures held { IfOk result (IsHeld (F.held files.old)) }
     ensures same { files.new ≡ files.old }
     ensures fault { IfErr result (λ e. IsFileFault (F.held files.old) e.0 e.1) }
-    ensures path { IfErr result (λ e. e.0 ≡ path_of want) }
+    ensures path { IfErr result (λ e. e.0 ≡ wanted_path want) }
 {
     match want {
         Want::File(path) => match files.file(alloc, path.as_slice()) {

@@ -53,3 +53,14 @@ pub record AreAnswered (p : Pair) (forms : Listed) (a : Ask) (old new : List Boo
       (known_at p.groups.now a.group) forms.old.items old
   pub in_new : AreAnsweredBy p.new.checked.now p.new.blocks.items p.directory.now (known_at p.directory.now.people a.target)
       (known_at p.groups.now a.group) forms.new.items new
+
+-- the first so many of these blocks of both policies allow the same, one by one
+abbrev pub AllowAlikeBelow : Pair → Listed → ℕ → Type 0
+AllowAlikeBelow p forms n = (q : Question) (k : ℕ) → k < n →
+    runas_at p.old.checked.now p.old.blocks.items q (get_or forms.old.items k 0)
+    ≡ runas_at p.new.checked.now p.new.blocks.items q (get_or forms.new.items k 0)
+
+-- all of them do
+pub record AreFormsAlike (p : Pair) (forms : Listed) : Type 0 where
+  pub long : length forms.old.items ≡ length forms.new.items
+  pub each : AllowAlikeBelow p forms (length forms.old.items)

@@ -7,7 +7,8 @@ use Rattle.run_base.specs.declared.files.FilesFault.{FilesFault}
 use Rattle.run_base.specs.declared.files.FilesFault.TheVariants as files
 use Rattle.run_base.specs.declared.fault.PolicyFault.{PolicyFault}
 use Rattle.run_base.specs.declared.fault.PolicyFault.TheVariants as faults
-use Rattle.run_base.specs.Loading.{path_of, AreErrorsOf}
+use Rattle.run_base.specs.FaultTexts.{wanted_path}
+use Rattle.run_base.specs.Loading.{AreErrorsOf}
 
 -- why a loaded policy does not pass the check
 abbrev pub IsNotCheckedOf : Policy → PolicyFault → Type 0
@@ -26,8 +27,8 @@ IsUnfetched path files.Memory fault = fault ≡ faults.Memory
 
 -- why what is needed is not handed in: memory failed, reading it fails, or it is too long
 abbrev pub IsNotHanded : Holdings → Want → PolicyFault → Type 0
-IsNotHanded held want (faults.CannotRead unread why) = (unread ≡ path_of want) × held.is_unreadable unread why
-IsNotHanded held want (faults.TooLong long) = (long ≡ path_of want) × held.is_long long
+IsNotHanded held want (faults.CannotRead unread why) = (unread ≡ wanted_path want) × held.is_unreadable unread why
+IsNotHanded held want (faults.TooLong long) = (long ≡ wanted_path want) × held.is_long long
 IsNotHanded held want faults.Memory = ⊤
 IsNotHanded held want (faults.Refused files fault text) = ⊥
 IsNotHanded held want (faults.Errors lines) = ⊥

@@ -11,12 +11,12 @@ use Rattle.review_compare.proofs.comparison.compared_blocks.Goals as goal
 
 pub returns : goal.returns
 returns c =
-    let old = ap (λ (rs : List Ruled). all_shown rs) c.deref-3.ensures.value ∙ c.in_ok-old_rows.ensures
-    ∙ ap (λ (bs : List Block). chosen bs c.args.old.now) c.deref.ensures.value in
-    let new = ap (λ (rs : List Ruled). all_shown rs) c.deref-4.ensures.value ∙ c.in_ok-new_rows.ensures
-    ∙ ap (λ (bs : List Block). chosen bs c.args.new.now) c.deref-2.ensures.value in
+    let old = ap (λ (rs : List Ruled). all_shown rs) c.deref-4.ensures.value ∙ c.in_ok-old_rows.ensures
+    ∙ ap (λ (bs : List Block). chosen bs c.args.old.now) c.deref-2.ensures.value in
+    let new = ap (λ (rs : List Ruled). all_shown rs) c.deref-5.ensures.value ∙ c.in_ok-new_rows.ensures
+    ∙ ap (λ (bs : List Block). chosen bs c.args.new.now) c.deref-3.ensures.value in
     IfOk-weaker c.compared_rows.result _ _
     (λ (f : Compared) is.
     subst (λ (ds : List Decider). IsCompared ds (chosen c.args.pair.now.parts.new.items c.args.new.now) f) old
-    (subst (λ (es : List Decider). IsCompared (all_shown c.deref-3.result.now) es f) new is))
+    (subst (λ (es : List Decider). IsCompared (all_shown c.deref-4.result.now) es f) new is))
     c.compared_rows.ensures
