@@ -228,7 +228,10 @@ fn notes_are_refused_where_none_is_wanted(rt: HostRuntime) -> Result<(), Fail> {
 #[test]
 fn an_escape_becomes_the_name_of_the_host(rt: HostRuntime) -> Result<(), Fail> {
     let rows = [
-        ("@include /etc/sudoers.%h\n", "@include /etc/sudoers.web1  \n"),
+        (
+            "@include /etc/sudoers.%h\n",
+            "@include /etc/sudoers.web1  \n",
+        ),
         (
             "a ALL = b\n#includedir \"d/%h.%h\" # %h\n",
             "a ALL = b\n#includedir \"d/web1.web1\" # %h    \n",
