@@ -11,7 +11,7 @@ check:
 	@test -d "crates/$(CRATE)/src" || { echo "usage: make check CRATE=NAME, of:" $$(ls crates); exit 2; }
 	cd crates/$(CRATE) && rt check && rt test
 
-# Checks all Python by flake8 and mypy, as pyproject.toml configures them, and the widths of the lines of the crates.
+# Checks all Python by flake8 and mypy, as pyproject.toml configures them, and the format and the widths of the crates.
 lint:
 	tools/tests/prepare
 	dev/style

@@ -1,4 +1,4 @@
-"""Checks of all Python of the repository and of the lines of the crates, by `dev/style`."""
+"""Checks of all Python of the repository and of the format and the lines of the crates, by `dev/style`."""
 
 import os
 import shutil
@@ -25,6 +25,10 @@ class Style(Case):
     @unittest.skipUnless(shutil.which("mypy"), "mypy is not installed")
     def test_mypy_finds_nothing(self) -> None:
         self.passes("mypy")
+
+    @unittest.skipUnless(shutil.which("rt"), "rt is not installed")
+    def test_each_crate_is_formatted(self) -> None:
+        self.passes("format")
 
     def test_no_line_of_a_crate_is_too_wide(self) -> None:
         self.passes("widths")
