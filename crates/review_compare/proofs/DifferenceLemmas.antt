@@ -22,7 +22,7 @@ use Rattle.review_compare.proofs.UnchangedLemmas.{less-or}
 use Rattle.review_compare.specs.Cells.{SaySame}
 use Rattle.review_compare.specs.Body.Merged.{AbsorbsAll}
 use Rattle.review_compare.specs.Body.Progress.{asking, Progress, IsSpot, IsOnAsked, IsOnEach, IsBefore, IsForAsked, IsForUser}
-use Rattle.review_compare.specs.Body.Progress.{IsUserBefore}
+use Rattle.review_compare.specs.Body.Progress.{IsUserBefore, IsUserBetween}
 use Rattle.review_compare.specs.Body.Progress.{AreLeft, AreLeftForAll, AreLeftUnless, IsAsked, SayAllSame, ask_of, cell_at, question_of}
 
 -- ---- Numbers
@@ -35,6 +35,11 @@ pub numbers-more : (n : ℕ) → map (λ (i : ℕ). Some i) (range_with_len 0 (n
 numbers-more n =
     sym (flat-singles (range_with_len 0 (n + 1))) ∙ flat-range (λ (i : ℕ). Some i ∷ []) n
     ∙ ap (λ (xs : List (Option ℕ)). xs ++ Some n ∷ []) (flat-singles (range_with_len 0 n))
+
+less-or-not : (a b : ℕ) → (a < b) ⊎ (b ≤ a)
+less-or-not a zero = inr (omega arith)
+less-or-not zero (suc b) = inl (omega arith)
+less-or-not (suc a) (suc b) = elim (less-or-not a b) [ inl l ↦ inl (omega (arith, l)) | inr r ↦ inr (omega (arith, r)) ]
 
 -- ---- Cells that are the same
 
@@ -176,18 +181,63 @@ for-user p rows more new about scope user asks own absorbs =
     let all = all-added p rows more new (IsForAsked p scope user asks) own absorbs in
     record { kept = all.kept; right = all.right; done = λ c at. all.done c (record { own = at.own; on = at.on; asked = at.asked }) }
 
-pub user-more : (p : Pair) (rows new : List Row) (about : Option Person) (scope : Option Machine) (user : ℕ) (asks : List Ask) →
-    Progress p [] rows (IsUserBefore p about scope user asks) → Progress p rows new (IsForUser p about scope user asks) →
-    Progress p [] new (IsUserBefore p about scope (user + 1) asks)
-user-more p rows new about scope user asks so_far one =
-    went-on p [] rows new (IsUserBefore p about scope user asks) (IsForUser p about scope user asks) (IsUserBefore p about scope
-    (user + 1) asks)
+pub user-more : (p : Pair) (rows new : List Row) (about : Option Person) (scope : Option Machine) (first user : ℕ) (asks : List Ask) →
+    first ≤ user → Progress p [] rows (IsUserBetween p about scope first user asks) →
+    Progress p rows new (IsForUser p about scope user asks) → Progress p [] new (IsUserBetween p about scope first (user + 1) asks)
+user-more p rows new about scope first user asks behind so_far one =
+    went-on p [] rows new (IsUserBetween p about scope first user asks) (IsForUser p about scope user asks)
+    (IsUserBetween p about scope first (user + 1) asks)
     (λ c at. go c at (less-or c.user user at.before)) so_far one
   where
-    go : (c : Cell) → IsUserBefore p about scope (user + 1) asks c → (c.user < user) ⊎ (c.user ≡ user) →
-        IsUserBefore p about scope user asks c ⊎ IsForUser p about scope user asks c
-    go c at (inl less) = inl (record { before = less; is = at.is; on = at.on; asked = at.asked })
+    go : (c : Cell) → IsUserBetween p about scope first (user + 1) asks c → (c.user < user) ⊎ (c.user ≡ user) →
+        IsUserBetween p about scope first user asks c ⊎ IsForUser p about scope user asks c
+    go c at (inl less) = inl (record { from = at.from; before = less; is = at.is; on = at.on; asked = at.asked })
     go c at (inr own) = inr (record { own = own; is = at.is; on = at.on; asked = at.asked })
+
+pub no-user-between : (p : Pair) (about : Option Person) (scope : Option Machine) (first : ℕ) (asks : List Ask) →
+    Progress p [] [] (IsUserBetween p about scope first first asks)
+no-user-between p about scope first asks =
+    started p [] (IsUserBetween p about scope first first asks)
+    (λ c at. let from = at.from in let before = at.before in omega (arith, from, before))
+
+-- the users before an end that lie within the known ones are all before it
+pub users-between : (p : Pair) (rows : List Row) (about : Option Person) (scope : Option Machine) (first n end : ℕ) (asks : List Ask) →
+    (n < length p.directory.now.people → end ≤ n) → Progress p [] rows (IsUserBetween p about scope first n asks) →
+    Progress p [] rows (IsUserBetween p about scope first end asks)
+users-between p rows about scope first n end asks all so_far = record {
+  kept = so_far.kept;
+  right = so_far.right;
+  done = λ c at. so_far.done c (record {
+    from = at.from;
+    before =
+        let less = there-of (is_user_if about) p.directory.now.people c.user refl at.is in
+        let before = at.before in
+        choice c.user less before (less-or-not n (length p.directory.now.people));
+    is = at.is;
+    on = at.on;
+    asked = at.asked;
+  });
+}
+  where
+    choice : (user : ℕ) → user < length p.directory.now.people → user < end →
+        (n < length p.directory.now.people) ⊎ (length p.directory.now.people ≤ n) → user < n
+    choice user less before (inl short) = let far = all short in omega (arith, before, far)
+    choice user less before (inr long) = omega (arith, less, long)
+
+-- the rows of a further part are absorbed
+pub part-more : (p : Pair) (rows more new : List Row) (about : Option Person) (scope : Option Machine) (first end : ℕ) (asks : List Ask) →
+    Progress p [] rows (IsUserBefore p about scope first asks) → Progress p [] more (IsUserBetween p about scope first end asks) →
+    AbsorbsAll rows more new → Progress p [] new (IsUserBefore p about scope end asks)
+part-more p rows more new about scope first end asks so_far own absorbs =
+    went-on p [] rows new (IsUserBefore p about scope first asks) (IsUserBetween p about scope first end asks)
+    (IsUserBefore p about scope end asks)
+    (λ c at. go c at (less-or-not c.user first)) so_far
+    (all-added p rows more new (IsUserBetween p about scope first end asks) own absorbs)
+  where
+    go : (c : Cell) → IsUserBefore p about scope end asks c → (c.user < first) ⊎ (first ≤ c.user) →
+        IsUserBefore p about scope first asks c ⊎ IsUserBetween p about scope first end asks c
+    go c at (inl less) = inl (record { before = less; is = at.is; on = at.on; asked = at.asked })
+    go c at (inr from) = inr (record { from = from; before = at.before; is = at.is; on = at.on; asked = at.asked })
 
 pub users-none : (p : Pair) (about : Option Person) (scope : Option Machine) (asks : List Ask) →
     Progress p [] [] (IsUserBefore p about scope 0 asks)

@@ -26,6 +26,7 @@ pub mod FoundLemmas
 pub mod ChangedLemmas
 pub mod UnsettledLemmas
 pub mod NearLemmas
+pub mod PartLemmas
 pub mod AskLemmas
 pub mod BriefLemmas
 pub mod SpotLemmas

@@ -9,10 +9,13 @@ ghost use Rattle.review_compare.specs.Body.Comparisons as body;
 use crate::compared::{Compared, compared_rows};
 use crate::copied::copied;
 use crate::finder::{Finder, digest_of_blocks};
+use crate::index_set::IndexSet;
 use crate::pair::Pair;
 use crate::settled::is_settled;
 use crate::side::rows_at;
+use crate::spot::Listed;
 use crate::trials::Trial;
+use crate::user_paths::UserPaths;
 use std::alloc::{AllocError, Global};
 
 /// The outcome of a comparison of blocks, by their indices in both policies.
@@ -42,18 +45,20 @@ impl Comparison {
     }
 }
 
-/// Comparisons that are kept, and a finder of their indices by digests of their blocks.
+/// Comparisons that are kept, a finder of their indices by digests of their blocks, and what is tried for a user.
 #[derive(Drop)]
 pub(crate) struct Comparisons {
     all: Vec<Comparison>,
     finder: Finder,
+    // What is tried for the user of the next comparisons.
+    user: UserPaths,
 }
 
 // The number of buckets in which comparisons are found.
-const BUCKETS: usize = 8192;
+const BUCKETS: usize = 1024;
 
 // The most comparisons that are kept.
-const MOST_KEPT: usize = 8192;
+const MOST_KEPT: usize = 256;
 
 impl Comparisons {
     /// Returns no comparisons. Returns `AllocError` if allocation fails.
@@ -64,6 +69,7 @@ impl Comparisons {
         Ok(Comparisons {
             all: Vec::new(alloc),
             finder,
+            user: UserPaths::none(alloc),
         })
     }
 
@@ -78,6 +84,19 @@ impl Comparisons {
             }
         }
         None
+    }
+
+    /// Has what comes next be for a user whom these blocks list. Returns `AllocError` if allocation fails.
+    pub(crate) fn begin_user(
+        &mut self,
+        alloc: Global,
+        pair: &Pair<'_>,
+        listed: &Listed,
+    ) -> Result<(), AllocError>
+        ensures { OnOk result ((p : ThePair) → body.AreRight p self.old → body.AreRight p self.new) }
+    {
+        self.user = UserPaths::of(alloc, pair, listed)?;
+        Ok(())
     }
 
     // Forgets the comparisons, if there are too many.
@@ -104,6 +123,7 @@ impl Comparisons {
 fn compared_blocks(
     alloc: Global,
     pair: &Pair<'_>,
+    user: &UserPaths,
     old: &[usize],
     new: &[usize],
 ) -> Result<Compared, AllocError>
@@ -115,12 +135,17 @@ fn compared_blocks(
     }
     let old_rows = rows_at(alloc, &pair.parts.old, old)?;
     let new_rows = rows_at(alloc, &pair.parts.new, new)?;
+    let old_set = IndexSet::of(alloc, pair.parts.old.len(), old)?;
+    let new_set = IndexSet::of(alloc, pair.parts.new.len(), new)?;
     let trial = Trial {
         probes: &pair.probes,
         reaches: &pair.reaches,
         parts: &pair.parts,
         old,
         new,
+        old_set: &old_set,
+        new_set: &new_set,
+        user,
         old_rows: &old_rows,
         new_rows: &new_rows,
     };
@@ -141,7 +166,7 @@ fn first_found(
         old.items) (chosen pair.entry.now.parts.new.items new.items)) }
     ensures right { OnOk result (body.AreRight pair.entry.now comparisons.new) }
 {
-    let found = compared_blocks(alloc, pair, &old, &new)?;
+    let found = compared_blocks(alloc, pair, &comparisons.user, &old, &new)?;
     let copy = copied(alloc, &found)?;
     comparisons.trim();
     comparisons.push(digest, Comparison { old, new, found })?;

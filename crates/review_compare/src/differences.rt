@@ -1,5 +1,6 @@
 //! The differences of two policies, cell by cell.
-ghost use Rattle.std.specs.Prelude.{◌≡◌, ◌++◌, ◌∷◌, [], All, if◌then◌else◌, IfOk, IsTrue, OnOk, Some, option_copied, slice_get};
+ghost use Rattle.std.specs.Prelude.{◌≡◌, ◌<◌, ◌+◌, ◌*◌, ◌^◌, ◌++◌, ◌∷◌, [], All, if◌then◌else◌, IfOk, IsTrue};
+ghost use Rattle.std.specs.Prelude.{OnOk, Some, option_copied, slice_get, vec_len};
 ghost use Rattle.std.specs.List.{list_all};
 ghost use Rattle.review_compare.specs.Blocks.{AreGrants, block_resolves};
 ghost use Rattle.review_compare.specs.Differences as differences;
@@ -20,12 +21,14 @@ use crate::finder::Finder;
 use crate::host_class::{HostClass, add_spot, rows_of};
 use crate::lines::line_atoms;
 use crate::pair::Pair;
-use crate::row::{Dimension, Row, absorb_all};
+use crate::row::{BUCKETS, Dimension, Row, absorb_all};
 use crate::shared::{SplitAsks, split_asks, unshared_asks};
 use crate::side::Side;
 use crate::spot::{Listed, Spot};
 use review_grants::Scope;
 use std::alloc::{AllocError, Global};
+use std::thread;
+use std::thread::Threads;
 use sudo_match::{Directory, Group, Machine, Person};
 use sudo_policy::{Atom, Checked};
 
@@ -233,6 +236,7 @@ fn rows_beside(
 {
     let left = asks_left(alloc, pair, person, machine, &asks.own)?;
     let listed = listed_for(alloc, pair, person)?;
+    comparisons.begin_user(alloc, pair, &listed)?;
     let asked = ask_classes(alloc, pair, person, machine, &listed, &left, &asks.shared)?;
     rows_for_asked(
         alloc,
@@ -302,26 +306,25 @@ fn add_user(
     absorb_all(rows, more, Dimension::Users, finder)
 }
 
-// The number of buckets in which the rows of all users are found.
-const BUCKETS_OF_ALL: usize = 16384;
-
-// Returns what is found for the users on the hosts that are asked about.
-fn all_rows(
+// Returns what is found for the users from one on to another on the hosts that are asked about.
+fn rows_between(
     alloc: Global,
     pair: &Pair<'_>,
     scope: Scope<'_>,
     asks: &SplitAsks,
+    first: usize,
+    end: usize,
 ) -> Result<Vec<Row>, AllocError>
     requires { IsSplit pair.now asks.now }
     ensures { IfOk result (λ rows. body.Progress pair.now [] rows.items
-        (body.IsAsked pair.now (option_copied scope.entry.user)
-        (option_copied scope.entry.host) asks.now.all.items)) }
+        (body.IsUserBetween pair.now (option_copied scope.entry.user)
+        (option_copied scope.entry.host) first end asks.now.all.items)) }
 {
     let mut comparisons = Comparisons::none(alloc)?;
-    let mut finder = Finder::new(alloc, BUCKETS_OF_ALL)?;
+    let mut finder = Finder::new(alloc, BUCKETS)?;
     let mut rows = Vec::new(alloc);
     let people = pair.directory.people();
-    for user in 0..people.len() {
+    for user in first..end.min(people.len()) {
         add_user(
             alloc,
             pair,
@@ -335,6 +338,68 @@ fn all_rows(
         )?;
     }
     Ok(rows)
+}
+
+// The number of parts of the users, each of which is compared in a thread of its own.
+const PARTS: usize = 4;
+
+// The number of buckets in which the rows of all users are found.
+const BUCKETS_OF_ALL: usize = 16384;
+
+// Returns what is found for the users of all parts, of so many users each; rows that differ in the user alone become one.
+fn joined_rows(
+    alloc: Global,
+    pair: &Pair<'_>,
+    scope: Scope<'_>,
+    asks: &SplitAsks,
+    size: usize,
+    parts: Vec<Result<Vec<Row>, AllocError>>,
+) -> Result<Vec<Row>, AllocError>
+    requires { body.AreParts pair.now (option_copied scope.user) (option_copied scope.host)
+        asks.now.all.items size parts.items }
+    ensures { IfOk result (λ rows. body.Progress pair.now [] rows.items
+        (body.IsUserBefore pair.now (option_copied scope.entry.user)
+        (option_copied scope.entry.host) (vec_len parts * size) asks.now.all.items)) }
+{
+    let mut finder = Finder::new(alloc, BUCKETS_OF_ALL)?;
+    let mut rows = Vec::new(alloc);
+    for part in parts {
+        absorb_all(&mut rows, part?, Dimension::Users, &mut finder)?;
+    }
+    Ok(rows)
+}
+
+// Returns what is found for the users on the hosts that are asked about.
+fn all_rows<T: Threads + Sync>(
+    alloc: Global,
+    threads: &T,
+    pair: &Pair<'_>,
+    scope: Scope<'_>,
+    asks: &SplitAsks,
+) -> Result<Vec<Row>, AllocError>
+    requires { IsSplit pair.now asks.now }
+    ensures { IfOk result (λ rows. body.Progress pair.now [] rows.items
+        (body.IsAsked pair.now (option_copied scope.entry.user)
+        (option_copied scope.entry.host) asks.now.all.items)) }
+{
+    let size = pair.directory.people().len() / PARTS + 1;
+    let parts = thread::map_indices(
+        threads,
+        alloc,
+        PARTS,
+        &|part: usize| -> Result<Vec<Row>, AllocError>
+            requires split { IsSplit pair.now asks.now }
+            requires room { part * size + size < 2 ^ 64 }
+            ensures { IfOk result (λ rows. body.Progress pair.entry.now [] rows.items
+                (body.IsUserBetween pair.entry.now (option_copied scope.entry.user)
+                (option_copied scope.entry.host) (part * size) (part * size + size)
+                asks.entry.now.all.items)) }
+        {
+            let first = part * size;
+            rows_between(alloc, pair, scope, asks, first, first + size)
+        },
+    )?;
+    joined_rows(alloc, pair, scope, asks, size, parts)
 }
 
 // Returns the asks to which the policies may say something else, to some user on some host.
@@ -359,36 +424,38 @@ fn asks_left_for_all(
 }
 
 // Returns what is found for the users on the hosts that are asked about, where one of these is asked.
-fn rows_where_asked(
+fn rows_where_asked<T: Threads + Sync>(
     alloc: Global,
+    threads: &T,
     pair: &Pair<'_>,
     scope: Scope<'_>,
-    asks: &[Ask],
+    asks: Vec<Ask>,
 ) -> Result<Vec<Row>, AllocError>
     ensures { IfOk result (λ rows. body.Progress pair.now [] rows.items
         (body.IsAsked pair.now (option_copied scope.entry.user)
-        (option_copied scope.entry.host) asks.now)) }
+        (option_copied scope.entry.host) asks.items)) }
 {
     match (
         pair.directory.people().first(),
         pair.directory.machines().first(),
     ) {
         (Some(person), Some(machine)) => {
-            let left = asks_left_for_all(alloc, pair, person, machine, asks)?;
-            let split = split_asks(alloc, pair, person, machine, &left)?;
-            drop(left);
-            all_rows(alloc, pair, scope, &split)
+            let left = asks_left_for_all(alloc, pair, person, machine, &asks)?;
+            drop(asks);
+            let split = split_asks(alloc, pair, person, machine, left)?;
+            all_rows(alloc, threads, pair, scope, &split)
         }
         _ => {
             let split = unshared_asks(alloc, pair, asks)?;
-            all_rows(alloc, pair, scope, &split)
+            all_rows(alloc, threads, pair, scope, &split)
         }
     }
 }
 
 // Compares two policies by their grants, with the commands of these if one of them stands for a note.
-fn compared_grants<'a>(
+fn compared_grants<'a, T: Threads + Sync>(
     alloc: Global,
+    threads: &T,
     old: &'a Checked,
     old_grants: Vec<Block<'a>>,
     old_atoms: &'a [Atom],
@@ -413,7 +480,7 @@ fn compared_grants<'a>(
     let old_side = Side::of(alloc, old, old_grants, old_atoms)?;
     let new_side = Side::of(alloc, new, new_grants, new_atoms)?;
     let pair = Pair::of(alloc, old_side, new_side, directory, groups)?;
-    rows_where_asked(alloc, &pair, scope, &asks)
+    rows_where_asked(alloc, threads, &pair, scope, asks)
 }
 
 /// Compares two policies in the cells of the users and hosts that are asked about: each target (none, and each known user) with
@@ -422,10 +489,11 @@ fn compared_grants<'a>(
 /// not, and two equal commands that follow equal ones in their lines apply alike.
 ///
 /// Of cells that differ in the host alone, those of which the same is found are one row, with its hosts in order; then rows that differ in
-/// the target alone, with its targets in the order of the known users, in the group alone, and in the user alone. Returns `AllocError` if
-/// allocation fails.
-pub fn compared_policies(
+/// the target alone, with its targets in the order of the known users, in the group alone, and in the user alone. The users are compared
+/// in several threads, where these can be made; the rows are the same without. Returns `AllocError` if allocation fails.
+pub fn compared_policies<T: Threads + Sync>(
     alloc: Global,
+    threads: &T,
     old: &Checked,
     new: &Checked,
     directory: &Directory,
@@ -441,6 +509,7 @@ pub fn compared_policies(
     let old_atoms = line_atoms(alloc, &old_grants)?;
     let new_atoms = line_atoms(alloc, &new_grants)?;
     compared_grants(
-        alloc, old, old_grants, &old_atoms, new, new_grants, &new_atoms, directory, groups, scope,
+        alloc, threads, old, old_grants, &old_atoms, new, new_grants, &new_atoms, directory,
+        groups, scope,
     )
 }

@@ -18,6 +18,19 @@ impl IndexSet {
         Ok(IndexSet { words })
     }
 
+    /// Returns these indices, those below the limit. Returns `AllocError` if allocation fails.
+    pub(crate) fn of(
+        alloc: Global,
+        limit: usize,
+        indices: &[usize],
+    ) -> Result<IndexSet, AllocError> {
+        let mut set = IndexSet::below(alloc, limit)?;
+        for index in indices {
+            set.add(*index);
+        }
+        Ok(set)
+    }
+
     /// Adds an index, if there is place for it.
     pub(crate) fn add(&mut self, index: usize) {
         if let Some(word) = self.words.get_mut(index / WORD_BITS) {

@@ -44,6 +44,7 @@ mod spot;
 mod targets;
 mod text;
 mod trials;
+mod user_paths;
 mod walk;
 mod whoever;
 mod witness;

@@ -1,6 +1,5 @@
 //! Commands that rows near a change fit, and the rows that fit their paths. They are hints: what is found by them is checked before
 //! it is used.
-ghost use Rattle.std.specs.Prelude.{◌≤◌, length};
 
 use crate::block::{Block, BlockRow};
 use crate::candidates::{Candidate, FILLS, own_candidate, own_path, push_given, rare_path};
@@ -21,11 +20,10 @@ pub(crate) struct RowAt {
     pub(crate) row: usize,
 }
 
-/// Rows of a policy whose paths fit a command, in order, and the blocks that have one.
+/// Rows of a policy whose paths fit a command, in order.
 #[derive(Drop)]
 pub(crate) struct Fitting {
     rows: Vec<RowAt>,
-    blocks: IndexSet,
 }
 
 /// The path of a command, and the rows of both policies whose paths fit it.
@@ -43,12 +41,12 @@ pub(crate) struct Own {
     pub(crate) arguments: Vec<u8>,
 }
 
-/// What the rows of a block give to try: commands with their own arguments and paths, by their indices, and arguments.
+/// What the rows of a block give to try, by their indices: commands with their own arguments, paths, and arguments.
 #[derive(Drop)]
 pub(crate) struct BlockProbes {
     pub(crate) own: Vec<usize>,
     pub(crate) paths: Vec<usize>,
-    pub(crate) arguments: Vec<Vec<u8>>,
+    pub(crate) arguments: Vec<usize>,
 }
 
 /// The commands with arguments that a row of a block of the common suffix fits, and the paths that one fits with whichever arguments, by
@@ -59,11 +57,13 @@ pub(crate) struct Settled {
     pub(crate) paths: IndexSet,
 }
 
-/// Paths of commands with the rows that fit them, commands with arguments, and what each block of both policies gives to try.
+/// Paths of commands with the rows that fit them, commands with arguments, arguments, and what each block of both policies gives to
+/// try.
 #[derive(Drop)]
 pub(crate) struct Probes {
     pub(crate) paths: Vec<Path>,
     pub(crate) own: Vec<Own>,
+    pub(crate) arguments: Vec<Vec<u8>>,
     pub(crate) old: Vec<BlockProbes>,
     pub(crate) new: Vec<BlockProbes>,
     /// The path of a command that few patterns fit.
@@ -81,13 +81,16 @@ const MOST_ROWS: usize = 4_000_000;
 // The index of a path that no row of the change fits.
 const NO_PATH: usize = usize::MAX;
 
-// The paths and the commands with arguments so far, the indices of those that were met, and how many tests and rows are left.
+// The paths, the commands with arguments and the arguments so far, the indices of those that were met, and how many tests and rows are
+// left.
 #[derive(Drop)]
 struct Gathered {
     paths: Vec<Path>,
     met: Names,
     own: Vec<Own>,
     met_own: Names,
+    arguments: Vec<Vec<u8>>,
+    met_arguments: Names,
     tests: usize,
     rows: usize,
 }
@@ -119,25 +122,12 @@ fn may_differ(changed: &[Ruled<'_>], command: &[u8]) -> bool {
     false
 }
 
-// Returns how many rows at the front are of the block.
-fn count_in(rows: &[RowAt], block: usize) -> usize
-    ensures { result ≤ length rows.now }
-{
-    for count in 0..rows.len() {
-        if rows[count].block != block {
-            return count;
-        }
-    }
-    rows.len()
-}
-
 impl Fitting {
-    // Returns no rows, with place for those of the blocks.
-    fn none(alloc: Global, blocks: &[Block<'_>]) -> Result<Fitting, AllocError> {
-        Ok(Fitting {
+    // Returns no rows.
+    fn none(alloc: Global) -> Fitting {
+        Fitting {
             rows: Vec::new(alloc),
-            blocks: IndexSet::below(alloc, blocks.len())?,
-        })
+        }
     }
 
     // Appends the rows of the other's blocks from one on to another, of which the first stands at an index here.
@@ -153,20 +143,24 @@ impl Fitting {
                 let block = (at.block - from).wrapping_add(first);
                 let row = at.row;
                 self.rows.push(RowAt { block, row })?;
-                self.blocks.add(block);
             }
         }
         Ok(())
     }
 
-    /// Returns the rows of a block.
-    pub(crate) fn in_block(&self, block: usize) -> &[RowAt] {
-        if !self.blocks.has(block) {
-            return &[];
+    /// Returns those of the rows that stand in one of these blocks. Returns `AllocError` if allocation fails.
+    pub(crate) fn of_blocks(
+        &self,
+        alloc: Global,
+        blocks: &IndexSet,
+    ) -> Result<Vec<RowAt>, AllocError> {
+        let mut rows = Vec::new(alloc);
+        for at in &self.rows {
+            if blocks.has(at.block) {
+                rows.push(*at)?;
+            }
         }
-        let behind = self.rows.as_slice();
-        let behind = &behind[behind.partition_point(|at| at.block < block)..];
-        &behind[..count_in(behind, block)]
+        Ok(rows)
     }
 
     // Appends the rows of a block whose paths fit the command.
@@ -179,7 +173,6 @@ impl Fitting {
         for row in 0..rows.len() {
             if fits_path(&rows[row].shape, command) {
                 self.rows.push(RowAt { block, row })?;
-                self.blocks.add(block);
             }
         }
         Ok(())
@@ -188,7 +181,7 @@ impl Fitting {
 
 // Returns the rows of the old policy whose paths fit the command.
 fn fitting_old(alloc: Global, blocks: &[Block<'_>], command: &[u8]) -> Result<Fitting, AllocError> {
-    let mut fitting = Fitting::none(alloc, blocks)?;
+    let mut fitting = Fitting::none(alloc);
     for block in 0..blocks.len() {
         fitting.push_block(&blocks[block].rows, block, command)?;
     }
@@ -205,7 +198,7 @@ fn fitting_new(
 ) -> Result<Fitting, AllocError> {
     let (parts, common) = (change.parts, change.common);
     let blocks = &parts.new;
-    let mut fitting = Fitting::none(alloc, blocks)?;
+    let mut fitting = Fitting::none(alloc);
     fitting.push_from(old, 0, common.front, 0)?;
     let end = blocks.len().saturating_sub(common.back);
     for block in common.front..end {
@@ -336,6 +329,17 @@ impl Gathered {
         self.own.push(Own { path, arguments })?;
         Ok(index)
     }
+
+    // Returns the index of arguments.
+    fn arguments_index(&mut self, alloc: Global, text: Vec<u8>) -> Result<usize, AllocError> {
+        if let Some(index) = self.met_arguments.get(&text) {
+            return Ok(index);
+        }
+        let index = self.arguments.len();
+        self.met_arguments.insert(alloc, &text, index)?;
+        self.arguments.push(text)?;
+        Ok(index)
+    }
 }
 
 impl BlockProbes {
@@ -373,7 +377,25 @@ impl BlockProbes {
         if path != NO_PATH && !self.paths.contains(&path) {
             self.paths.push(path)?;
         }
-        push_given(alloc, shape, &mut self.arguments)
+        self.push_arguments(alloc, gathered, shape)
+    }
+
+    // Appends what the row has of arguments.
+    fn push_arguments(
+        &mut self,
+        alloc: Global,
+        gathered: &mut Gathered,
+        shape: &Shape,
+    ) -> Result<(), AllocError> {
+        let mut given = Vec::new(alloc);
+        push_given(alloc, shape, &mut given)?;
+        for text in given {
+            let index = gathered.arguments_index(alloc, text)?;
+            if !self.arguments.contains(&index) {
+                self.arguments.push(index)?;
+            }
+        }
+        Ok(())
     }
 }
 
@@ -490,6 +512,8 @@ impl Probes {
             met: Names::new(alloc),
             own: Vec::new(alloc),
             met_own: Names::new(alloc),
+            arguments: Vec::new(alloc),
+            met_arguments: Names::new(alloc),
             tests: MOST_TESTS,
             rows: MOST_ROWS,
         };
@@ -498,11 +522,17 @@ impl Probes {
         let rare = rare_path(alloc)?;
         let rare = gathered.index_of(alloc, change, &rare)?;
         let rare = if rare == NO_PATH { None } else { Some(rare) };
-        let Gathered { paths, own, .. } = gathered;
+        let Gathered {
+            paths,
+            own,
+            arguments,
+            ..
+        } = gathered;
         let settled = settled_by(alloc, change, &paths, &own)?;
         Ok(Probes {
             paths,
             own,
+            arguments,
             old,
             new,
             rare,

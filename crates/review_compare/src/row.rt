@@ -28,7 +28,7 @@ pub struct Row {
     pub found: Compared,
 }
 
-/// The number of buckets in which the rows of one user are found.
+/// The number of buckets in which the rows of one user, or of a part of the users, are found.
 pub(crate) const BUCKETS: usize = 1024;
 
 /// In what two rows may differ that become one.

@@ -280,16 +280,16 @@ pub(crate) fn split_asks(
     pair: &Pair<'_>,
     person: &Person,
     machine: &Machine,
-    asks: &[Ask],
+    asks: Vec<Ask>,
 ) -> Result<SplitAsks, AllocError>
     ensures split { IfOk result (body.IsSplit pair.now) }
-    ensures all { IfOk result (λ split. split.all.items ≡ asks.now) }
+    ensures all { IfOk result (λ split. split.all.items ≡ asks.items) }
 {
     let forms = forms_near(alloc, pair)?;
     let are_alike = are_forms_alike(alloc, pair, &forms)?;
     let mut answered = Vec::new(alloc);
     let mut own = Vec::new(alloc);
-    for ask in asks {
+    for ask in asks.as_slice() {
         split_ask(
             alloc,
             pair,
@@ -303,23 +303,25 @@ pub(crate) fn split_asks(
         )?;
     }
     let shared = shared_asks(alloc, pair, &answered)?;
-    let all = Vec::from_slice(alloc, asks)?;
-    Ok(SplitAsks { all, shared, own })
+    Ok(SplitAsks {
+        all: asks,
+        shared,
+        own,
+    })
 }
 
 /// Returns asks of which none is shared. Returns `AllocError` if allocation fails.
 pub(crate) fn unshared_asks(
     alloc: Global,
     pair: &Pair<'_>,
-    asks: &[Ask],
+    asks: Vec<Ask>,
 ) -> Result<SplitAsks, AllocError>
     ensures split { IfOk result (body.IsSplit pair.now) }
-    ensures all { IfOk result (λ split. split.all.items ≡ asks.now) }
+    ensures all { IfOk result (λ split. split.all.items ≡ asks.items) }
 {
-    let all = Vec::from_slice(alloc, asks)?;
-    let own = Vec::from_slice(alloc, asks)?;
+    let own = Vec::from_slice(alloc, &asks)?;
     Ok(SplitAsks {
-        all,
+        all: asks,
         shared: Vec::new(alloc),
         own,
     })

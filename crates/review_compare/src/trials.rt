@@ -8,10 +8,10 @@ use crate::block::{Block, BlockRow};
 use crate::candidates::{MOST_ARGUMENTS, can_be_asked};
 use crate::index_set::IndexSet;
 use crate::near::Parts;
-use crate::probes::{BlockProbes, Fitting, Own, Path, Probes, RowAt, fits_arguments, takes_any};
+use crate::probes::{BlockProbes, Own, Probes, RowAt, fits_arguments, takes_any};
 use crate::row_reaches::Reaches;
 use crate::ruling::{Ruled, is_unnoted};
-use crate::shape::Shape;
+use crate::user_paths::{FittedPath, UserPaths};
 use crate::witness::{Witness, witness_of};
 use std::alloc::{AllocError, Global};
 use sudo_grammar::Atom;
@@ -24,11 +24,22 @@ pub(crate) struct Trial<'t, 'a> {
     pub(crate) probes: &'t Probes,
     pub(crate) parts: &'t Parts<'a>,
     pub(crate) reaches: &'t Reaches<'a>,
-    /// The indices of the blocks.
+    /// The indices of the blocks, in order and as sets.
     pub(crate) old: &'t [usize],
     pub(crate) new: &'t [usize],
+    pub(crate) old_set: &'t IndexSet,
+    pub(crate) new_set: &'t IndexSet,
+    /// The rows to look at, of blocks that list the user.
+    pub(crate) user: &'t UserPaths,
     pub(crate) old_rows: &'t [Ruled<'t>],
     pub(crate) new_rows: &'t [Ruled<'t>],
+}
+
+impl<'t> Trial<'t, '_> {
+    // Returns the path at an index, if there is one.
+    fn path(&self, index: usize) -> Option<FittedPath<'t>> {
+        self.user.path(self.probes, index)
+    }
 }
 
 // Which commands with arguments, and which paths, were tried or need not be.
@@ -63,49 +74,37 @@ fn row_of<'b, 'a>(blocks: &'b [Block<'a>], at: RowAt) -> Option<&'b BlockRow<'a>
     blocks.get(at.block)?.rows.get(at.row)
 }
 
-// Returns the last of the rows that stands in a block of these indices.
+// Returns the last of the rows that stands in one of these blocks.
 fn last_among<'b, 'a>(
     blocks: &'b [Block<'a>],
-    indices: &[usize],
-    fitting: &Fitting,
+    chosen: &IndexSet,
+    rows: &[RowAt],
 ) -> Option<&'b BlockRow<'a>> {
-    for back in 0..indices.len() {
-        if let Some(at) = fitting.in_block(indices[indices.len() - back - 1]).last() {
-            return row_of(blocks, *at);
+    for back in 0..rows.len() {
+        let at = rows[rows.len() - back - 1];
+        if chosen.has(at.block) {
+            return row_of(blocks, at);
         }
     }
     None
 }
 
-// Returns the last of the rows that fits the command, whose path fits it.
-fn last_fitting<'b, 'a>(
+// Returns the last of the rows, whose paths fit the command, that stands in one of these blocks and fits it.
+fn deciding<'b, 'a>(
     blocks: &'b [Block<'a>],
+    chosen: &IndexSet,
     rows: &[RowAt],
     command: &[u8],
     arguments: &[u8],
 ) -> Option<&'b BlockRow<'a>> {
     for back in 0..rows.len() {
-        if let Some(row) = row_of(blocks, rows[rows.len() - back - 1]) {
-            if fits_arguments(&row.shape, command, arguments) {
-                return Some(row);
+        let at = rows[rows.len() - back - 1];
+        if chosen.has(at.block) {
+            if let Some(row) = row_of(blocks, at) {
+                if fits_arguments(&row.shape, command, arguments) {
+                    return Some(row);
+                }
             }
-        }
-    }
-    None
-}
-
-// Returns the last row of the blocks at these indices that fits the command, of those whose paths fit it.
-fn deciding<'b, 'a>(
-    blocks: &'b [Block<'a>],
-    indices: &[usize],
-    fitting: &Fitting,
-    command: &[u8],
-    arguments: &[u8],
-) -> Option<&'b BlockRow<'a>> {
-    for back in 0..indices.len() {
-        let rows = fitting.in_block(indices[indices.len() - back - 1]);
-        if let Some(row) = last_fitting(blocks, rows, command, arguments) {
-            return Some(row);
         }
     }
     None
@@ -182,16 +181,16 @@ fn try_command(
 // Whether the command seems to be answered otherwise, and none of the witnesses has this answer.
 fn is_worth_trying(
     trial: &Trial<'_, '_>,
-    path: &Path,
+    path: FittedPath<'_>,
     arguments: &[u8],
     found: &[Witness],
 ) -> bool {
-    if found.len() >= MOST_ANSWERS || !can_be_asked(&path.text, arguments) {
+    if found.len() >= MOST_ANSWERS || !can_be_asked(path.text, arguments) {
         return false;
     }
-    let (parts, text) = (trial.parts, &path.text);
-    let old = deciding(&parts.old, trial.old, &path.old, text, arguments);
-    let new = deciding(&parts.new, trial.new, &path.new, text, arguments);
+    let (parts, text) = (trial.parts, path.text);
+    let old = deciding(&parts.old, trial.old_set, path.old, text, arguments);
+    let new = deciding(&parts.new, trial.new_set, path.new, text, arguments);
     match answer_of(old, new) {
         None => false,
         Some(answer) => !has_answer(found, answer),
@@ -202,7 +201,7 @@ fn is_worth_trying(
 fn try_text(
     alloc: Global,
     trial: &Trial<'_, '_>,
-    path: &Path,
+    path: FittedPath<'_>,
     arguments: &[u8],
     found: &mut Vec<Witness>,
 ) -> Result<(), AllocError>
@@ -211,7 +210,7 @@ fn try_text(
     if !is_worth_trying(trial, path, arguments, found) {
         return Ok(());
     }
-    try_command(alloc, trial, &path.text, arguments, found)
+    try_command(alloc, trial, path.text, arguments, found)
 }
 
 // Tries a command with arguments that one row fits.
@@ -223,7 +222,7 @@ fn try_own(
 ) -> Result<(), AllocError>
     ensures { OnOk result (StayWitnesses trial.now found.old.items found.new.items) }
 {
-    match trial.probes.paths.get(text.path) {
+    match trial.path(text.path) {
         None => Ok(()),
         Some(path) => try_text(alloc, trial, path, &text.arguments, found),
     }
@@ -272,13 +271,17 @@ fn try_all_own(
 }
 
 // Whether the last rows that the path fits take any arguments: then all of them are answered alike.
-fn takes_all(trial: &Trial<'_, '_>, path: &Path) -> bool {
-    row_takes_any(last_among(&trial.parts.old, trial.old, &path.old))
-        && row_takes_any(last_among(&trial.parts.new, trial.new, &path.new))
+fn takes_all(trial: &Trial<'_, '_>, path: FittedPath<'_>) -> bool {
+    row_takes_any(last_among(&trial.parts.old, trial.old_set, path.old))
+        && row_takes_any(last_among(&trial.parts.new, trial.new_set, path.new))
 }
 
 // Returns the first of the arguments alone, if all are answered alike.
-fn needed<'g, 'u>(trial: &Trial<'_, '_>, path: &Path, given: &'g [&'u [u8]]) -> &'g [&'u [u8]] {
+fn needed<'g, 'u>(
+    trial: &Trial<'_, '_>,
+    path: FittedPath<'_>,
+    given: &'g [&'u [u8]],
+) -> &'g [&'u [u8]] {
     if given.len() > 1 && takes_all(trial, path) {
         &given[..1]
     } else {
@@ -290,7 +293,7 @@ fn needed<'g, 'u>(trial: &Trial<'_, '_>, path: &Path, given: &'g [&'u [u8]]) -> 
 fn try_path(
     alloc: Global,
     trial: &Trial<'_, '_>,
-    path: &Path,
+    path: FittedPath<'_>,
     given: &[&[u8]],
     found: &mut Vec<Witness>,
 ) -> Result<(), AllocError>
@@ -316,7 +319,7 @@ fn try_path_at(
     if !is_first(tried, index) {
         return Ok(());
     }
-    match trial.probes.paths.get(index) {
+    match trial.path(index) {
         None => Ok(()),
         Some(path) => try_path(alloc, trial, path, given, found),
     }
@@ -433,33 +436,59 @@ fn try_paths_of(
     Ok(())
 }
 
-// Whether the text is among the others.
-fn has_text(texts: &[&[u8]], text: &[u8]) -> bool {
-    texts.iter().any(|other| *other == text)
-}
-
-// Appends texts of arguments that are not among the others, up to 32.
-fn push_texts<'t>(texts: &'t [Vec<u8>], given: &mut Vec<&'t [u8]>) -> Result<(), AllocError> {
-    for text in texts {
-        if given.len() < MOST_ARGUMENTS && !has_text(given, text) {
-            given.push(text.as_slice())?;
-        }
-    }
-    Ok(())
-}
-
-// Appends texts of the arguments of the blocks that are not among the others, up to 32.
+// Appends the arguments of the blocks that were not met before, while fewer than 32 are there.
 fn push_given_by<'t>(
-    probes: &'t [BlockProbes],
+    texts: &'t [Vec<u8>],
+    probes: &[BlockProbes],
     indices: &[usize],
+    met: &mut IndexSet,
     given: &mut Vec<&'t [u8]>,
 ) -> Result<(), AllocError> {
     for index in indices {
         if let Some(block) = probes.get(*index) {
-            push_texts(&block.arguments, given)?;
+            push_given_of(texts, block, met, given)?;
         }
     }
     Ok(())
+}
+
+// Appends the arguments of a block that were not met before, while fewer than 32 are there.
+fn push_given_of<'t>(
+    texts: &'t [Vec<u8>],
+    block: &BlockProbes,
+    met: &mut IndexSet,
+    given: &mut Vec<&'t [u8]>,
+) -> Result<(), AllocError> {
+    for index in &block.arguments {
+        if let Some(text) = texts.get(*index) {
+            if given.len() < MOST_ARGUMENTS && is_first(met, *index) {
+                given.push(text.as_slice())?;
+            }
+        }
+    }
+    Ok(())
+}
+
+// Returns the arguments that the rows of the trial give to try, up to 32: those of the new policy first.
+fn given_by<'t>(alloc: Global, trial: &Trial<'t, '_>) -> Result<Vec<&'t [u8]>, AllocError> {
+    let probes = trial.probes;
+    let mut met = IndexSet::below(alloc, probes.arguments.len())?;
+    let mut given = Vec::new(alloc);
+    push_given_by(
+        &probes.arguments,
+        &probes.new,
+        trial.new,
+        &mut met,
+        &mut given,
+    )?;
+    push_given_by(
+        &probes.arguments,
+        &probes.old,
+        trial.old,
+        &mut met,
+        &mut given,
+    )?;
+    Ok(given)
 }
 
 // Tries a command that few patterns fit.
@@ -473,7 +502,7 @@ fn try_rare(
     let Some(index) = trial.probes.rare else {
         return Ok(());
     };
-    match trial.probes.paths.get(index) {
+    match trial.path(index) {
         None => Ok(()),
         Some(path) => try_text(alloc, trial, path, b"", found),
     }
@@ -487,9 +516,7 @@ pub(crate) fn witnesses(alloc: Global, trial: &Trial<'_, '_>) -> Result<Vec<Witn
         trial.now.new_rows.now) found.items) }
 {
     let (old, new) = (&trial.probes.old, &trial.probes.new);
-    let mut given = Vec::new(alloc);
-    push_given_by(new, trial.new, &mut given)?;
-    push_given_by(old, trial.old, &mut given)?;
+    let given = given_by(alloc, trial)?;
     let mut tried = untried(alloc, trial)?;
     let mut found = Vec::new(alloc);
     try_blocks(alloc, trial, new, trial.new, &given, &mut tried, &mut found)?;

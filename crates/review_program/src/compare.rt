@@ -19,6 +19,7 @@ use review_grants::Scope;
 use review_roots::known_groups;
 use run_base::{Files, RunOutput};
 use std::alloc::{AllocError, Global};
+use std::thread::Threads;
 
 // Whether there is a witness.
 fn are_shown(witnesses: &[Witness]) -> bool
@@ -56,13 +57,18 @@ fn status_of(rows: &[Row]) -> u8
 }
 
 // Returns the table of the differences of two policies in a scope, and the status for it.
-fn scoped_table(alloc: Global, pair: &Pair, scope: Scope<'_>) -> Result<RunOutput, AllocError>
+fn scoped_table<T: Threads + Sync>(
+    alloc: Global,
+    threads: &T,
+    pair: &Pair,
+    scope: Scope<'_>,
+) -> Result<RunOutput, AllocError>
     ensures { IfOk result (λ o. AreScopedDifferences pair.now
         (option_copied scope.entry.user) (option_copied scope.entry.host) o.text.items o.status) }
 {
     let (old, new) = (&pair.old.policy, &pair.new.policy);
     let groups = known_groups(alloc, &pair.directory)?;
-    let rows = compared_policies(alloc, old, new, &pair.directory, &groups, scope)?;
+    let rows = compared_policies(alloc, threads, old, new, &pair.directory, &groups, scope)?;
     let text = differences_text(alloc, old, new, &pair.directory, &groups, &rows)?;
     let status = status_of(&rows);
     drop(rows);
@@ -72,7 +78,12 @@ fn scoped_table(alloc: Global, pair: &Pair, scope: Scope<'_>) -> Result<RunOutpu
 
 // Returns the table of the differences of two policies for these names, and the status for it; or the fault, if no known one
 // has a name.
-fn named_table(alloc: Global, pair: &Pair, names: ScopeNames<'_>) -> Result<RunOutput, TableFault>
+fn named_table<T: Threads + Sync>(
+    alloc: Global,
+    threads: &T,
+    pair: &Pair,
+    names: ScopeNames<'_>,
+) -> Result<RunOutput, TableFault>
     ensures made { IfOk result (λ o. AreNamedDifferences (option_copied names.entry.user)
         (option_copied names.entry.host) pair.now.old.policy pair.now.new.policy
         pair.now.directory o.text.items o.status) }
@@ -80,14 +91,15 @@ fn named_table(alloc: Global, pair: &Pair, names: ScopeNames<'_>) -> Result<RunO
         (option_copied names.entry.user) (option_copied names.entry.host)) }
 {
     match scope_of(alloc, &pair.directory, names) {
-        Ok(scope) => Ok(scoped_table(alloc, pair, scope)?),
+        Ok(scope) => Ok(scoped_table(alloc, threads, pair, scope)?),
         Err(fault) => Err(fault),
     }
 }
 
 // Returns the text, the notice and the status of the comparison of the policies of two files.
-fn compare_output<F: Files, G: Files, U: Feed, H: Feed>(
+fn compare_output<T: Threads + Sync, F: Files, G: Files, U: Feed, H: Feed>(
     alloc: Global,
+    threads: &T,
     old_path: &[u8],
     old_files: &mut F,
     new_path: &[u8],
@@ -109,7 +121,7 @@ fn compare_output<F: Files, G: Files, U: Feed, H: Feed>(
         alloc, old_path, old_files, new_path, new_files, users, hosts,
     ) {
         Ok(pair) => {
-            let table = named_table(alloc, &pair, names);
+            let table = named_table(alloc, threads, &pair, names);
             noted_pair(pair, table)
         }
         Err(fault) => Err(fault),
@@ -126,8 +138,9 @@ fn compare_output<F: Files, G: Files, U: Feed, H: Feed>(
 /// policy, the new one, the users, the hosts, both together, the names. If the check of a policy finds errors, prints them on
 /// `err`; prints any other fault as one line on `err`. Then nothing was printed on `out`, except by a write that failed part
 /// way.
-pub fn compare_run<F: Files, G: Files, U: Feed, H: Feed, O: Sink, E: Sink>(
+pub fn compare_run<T: Threads + Sync, F: Files, G: Files, U: Feed, H: Feed, O: Sink, E: Sink>(
     alloc: Global,
+    threads: &T,
     old_path: &[u8],
     old_files: &mut F,
     new_path: &[u8],
@@ -148,7 +161,7 @@ pub fn compare_run<F: Files, G: Files, U: Feed, H: Feed, O: Sink, E: Sink>(
         (sent E.taken E.stalled_writes err.old err.new) }
 {
     let ended = compare_output(
-        alloc, old_path, old_files, new_path, new_files, users, hosts, names,
+        alloc, threads, old_path, old_files, new_path, new_files, users, hosts, names,
     );
     end_noted(alloc, PROGRAM, ended, out, err)
 }

@@ -18,8 +18,13 @@ use std::env;
 use std::sync::Wait;
 use std::thread::Threads;
 
-// Lists what a change of a policy does, and returns the exit status.
-fn run_compare(rt: &HostRuntime, paths: PairPaths<'_>, names: ScopeNames<'_>) -> u8 {
+// Lists what a change of a policy does, and returns the exit status. `threads` is the runtime, if it can start threads.
+fn run_compare<T: Threads + Sync>(
+    rt: &HostRuntime,
+    threads: &T,
+    paths: PairPaths<'_>,
+    names: ScopeNames<'_>,
+) -> u8 {
     let EscapeName { name, hint } = match escape_name(rt, paths.hostname, paths.hosts) {
         Ok(found) => found,
         Err(fault) => return refused(rt, fault),
@@ -38,6 +43,7 @@ fn run_compare(rt: &HostRuntime, paths: PairPaths<'_>, names: ScopeNames<'_>) ->
     };
     let status = compare_run(
         rt.alloc(),
+        threads,
         paths.old.as_bytes(),
         &mut before,
         paths.new.as_bytes(),
@@ -148,7 +154,7 @@ fn run<T: Threads + Wait + Sync>(rt: &HostRuntime, threads: &T, asked: Asked<'_>
                 user: bytes_of(user),
                 host: bytes_of(host),
             };
-            run_compare(rt, paths, names)
+            run_compare(rt, threads, paths, names)
         }
         Asked::Changes { paths, senders } => run_changes(rt, threads, paths, &senders),
     }

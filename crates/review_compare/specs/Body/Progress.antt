@@ -1,5 +1,8 @@
 -- The rows so far, and the cells that are done; only proofs of bodies need these definitions.
-use Rattle.std.specs.Prelude.{◌≡◌, ◌⊎◌, ◌<◌, ℕ, true, List, slice_get, Option, Some}
+use Rattle.std.specs.Prelude.{◌≡◌, ◌⊎◌, ◌<◌, ◌≤◌, ◌+◌, ◌*◌, ℕ, true, List, [], length, slice_get, slice_index_or, Option, Some}
+use Rattle.std.specs.Prelude.{IfOk, Result, Vec}
+use Rattle.std.specs.declared.alloc.AllocError.{AllocError}
+use Rattle.std.specs.declared.alloc.Global.{Global}
 use Rattle.std.specs.List.{Contains, list_all}
 use Rattle.sudo_match.specs.declared.people.Machine.{Machine}
 use Rattle.sudo_match.specs.declared.people.Person.{Person}
@@ -115,6 +118,21 @@ pub record IsUserBefore (p : Pair) (about : Option Person) (scope : Option Machi
   pub is : is_user_if about (slice_get p.directory.now.people c.user) ≡ true
   pub on : is_host_if scope (slice_get p.directory.now.machines c.host) ≡ true
   pub asked : Contains asks c.ask
+
+-- a cell of a user from one on and before another, who is asked about
+pub record IsUserBetween (p : Pair) (about : Option Person) (scope : Option Machine) (first end : ℕ) (asks : List Ask)
+    (c : Cell) : Type 0 where
+  pub from : first ≤ c.user
+  pub before : c.user < end
+  pub is : is_user_if about (slice_get p.directory.now.people c.user) ≡ true
+  pub on : is_host_if scope (slice_get p.directory.now.machines c.host) ≡ true
+  pub asked : Contains asks c.ask
+
+-- the rows for each part of the users, of so many users each, unless allocation failed
+abbrev pub AreParts : Pair → Option Person → Option Machine → List Ask → ℕ → List (Result (Vec Row Global) AllocError) → Type 0
+AreParts p about scope asks size parts =
+    (i : ℕ) (d : Result (Vec Row Global) AllocError) → i < length parts →
+    IfOk (slice_index_or parts i d) (λ rows. Progress p [] rows.items (IsUserBetween p about scope (i * size) (i * size + size) asks))
 
 -- a cell that is asked about
 pub record IsAsked (p : Pair) (about : Option Person) (scope : Option Machine) (asks : List Ask) (c : Cell) : Type 0 where
