@@ -25,7 +25,7 @@ use Rattle.review_compare.specs.declared.answer.Answer.TheVariants as answer
 use Rattle.review_compare.specs.Body.Asked.{settled}
 use Rattle.review_compare.proofs.CaseLemmas.{same_cases_say_same}
 use Rattle.review_compare.proofs.NoteLemmas.{unborne, unnoted-request, unnoted_cases_hold}
-use Rattle.review_roots.specs.Levels.{allowed}
+use Rattle.review_grants.specs.Targets.{allowed}
 use Rattle.review_commands.specs.ChangeLaws.{MayDepends, SaySameTo, UndependingHold, UnlistedSaySame, UnnotedByVerdicts, VerdictHolds}
 use Rattle.review_commands.specs.Changes.{are_freer, change_between, change_if, change_to, change_unless, other_change, request_depends}
 use Rattle.review_commands.specs.Changes.{tags_change}

@@ -11,7 +11,7 @@ use Rattle.sudo_match.specs.declared.people.Machine.{Machine}
 use Rattle.sudo_match.specs.declared.people.Person.{Person}
 use Rattle.sudo_match.specs.KnownRows.{KnownRows}
 use Rattle.sudo_verdict.specs.Questions.{Question, question_as}
-use Rattle.review_roots.proofs.ListSteps.{take-more}
+use Rattle.review_grants.proofs.ListSteps.{take-more}
 use Rattle.review_compare.specs.declared.ask_class.AskClass.{AskClass}
 use Rattle.review_compare.specs.declared.ask_class.AskedWith.{AskedWith}
 use Rattle.review_compare.specs.declared.block.Block.{Block}

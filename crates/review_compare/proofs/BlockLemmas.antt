@@ -26,7 +26,7 @@ use Rattle.review_compare.specs.declared.block.InForce.{InForce}
 use Rattle.review_compare.specs.Blocks.{AreGrants, block_resolves, block_wides}
 use Rattle.review_compare.specs.Cells.{Wide, wide_of}
 use Rattle.review_compare.specs.Body.Heads.{IsInForce, row_answered, signed_answered, answered_wide, signed_wide, head_resolves}
-use Rattle.review_roots.proofs.ListSteps.{take-more, take-enumerated, flat-one, all-push, all-taken, all-there, map-same, map-twice}
+use Rattle.review_grants.proofs.ListSteps.{take-more, take-enumerated, flat-one, all-push, all-taken, all-there, map-same, map-twice}
 
 -- ---- The block of a command
 

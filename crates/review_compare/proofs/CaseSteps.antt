@@ -17,8 +17,8 @@ use Rattle.sudo_match.specs.Matching.{arguments_fit, arguments_slash, command_fi
 use Rattle.sudo_match.specs.Pattern.{Part, fits, parts, path_chars}
 use Rattle.sudo_verdict.specs.Questions.{Question, question_of}
 use Rattle.sudo_verdict.specs.Values.{host_allowed, user_allowed}
-use Rattle.review_roots.specs.Levels.{with_command}
-use Rattle.review_roots.proofs.LevelSteps.{runas_same}
+use Rattle.review_grants.specs.Targets.{with_command}
+use Rattle.review_grants.proofs.TargetLemmas.{runas_same}
 use Rattle.review_compare.specs.declared.block.Block.{Block}
 use Rattle.review_compare.specs.declared.block.BlockRow.{BlockRow}
 use Rattle.review_compare.specs.declared.ruling.Ruled.{Ruled}

@@ -19,11 +19,10 @@ use Rattle.sudo_verdict.specs.Questions.{Question}
 use Rattle.sudo_verdict.specs.Grants.{Grant, applies, grants}
 use Rattle.sudo_verdict.specs.Verdicts.{decided_by, verdict_by, verdict_if_any, verdict_on}
 use Rattle.sudo_verdict.proofs.Lasts.{last_that-map, option_map_or}
-use Rattle.review_roots.specs.Levels.{with_command}
+use Rattle.review_grants.specs.Targets.{with_command}
 use Rattle.review_grants.proofs.RowLemmas.{last_that-filter}
-use Rattle.review_roots.proofs.LevelLemmas.{verdict_is_where}
-use Rattle.review_roots.proofs.LevelSteps.{runas_same}
-use Rattle.review_roots.proofs.NoteLemmas.{holds-of-no-note}
+use Rattle.review_grants.proofs.TargetLemmas.{runas_same, verdict_is_where}
+use Rattle.review_grants.proofs.NoteTests.{holds-of-no-note}
 use Rattle.review_compare.specs.Agreement.{AreSound, answer_of}
 use Rattle.review_compare.specs.Compared.{said}
 use Rattle.review_compare.specs.Lines.{Choice, Line, Lined, all_met, at_line, fits_where, is_met, is_note_atom, is_unnoted, noted, nowhere}

@@ -22,7 +22,7 @@ use Rattle.review_compare.specs.Body.ChangedRows.{AreChanged, between, is_fitted
 use Rattle.review_compare.specs.Body.Shown.{all_shown, ruling_of}
 use Rattle.review_compare.proofs.CellLemmas.{said-among}
 use Rattle.review_compare.proofs.SimplyLemmas.{disjoint_simply_sound}
-use Rattle.review_roots.proofs.ListSteps.{map-twice}
+use Rattle.review_grants.proofs.ListSteps.{map-twice}
 
 -- ---- Commands that a changed row fits
 

@@ -14,7 +14,7 @@ use Rattle.sudo_match.specs.declared.people.Person.{Person}
 use Rattle.sudo_verdict.specs.Values.{user_allowed, host_allowed}
 use Rattle.sudo_verdict.specs.RunasForms.{runas_allows}
 use Rattle.sudo_verdict.specs.Questions.{Question}
-use Rattle.review_roots.proofs.ListSteps.{take-more, flat-one, flat-range, index-there, all-there, filter-constant, map-twice}
+use Rattle.review_grants.proofs.ListSteps.{take-more, flat-one, flat-range, index-there, all-there, filter-constant, map-twice}
 use Rattle.review_compare.specs.declared.block.Block.{Block}
 use Rattle.review_compare.specs.Cells.{Decider, Wide, deciders, wide_stands}
 use Rattle.review_compare.specs.Blocks.{block_decider, block_wide, block_wides, block_stands, standing, AreBlocks}

@@ -13,10 +13,10 @@ use Rattle.sudo_verdict.specs.Questions.{Question}
 use Rattle.sudo_verdict.specs.Grants.{Grant}
 use Rattle.sudo_verdict.specs.Verdicts.{decided_by, verdict_if_any, verdict_on}
 use Rattle.sudo_verdict.proofs.Lasts.{last_that-map}
-use Rattle.review_roots.specs.Levels.{target_rows, with_command}
+use Rattle.review_grants.specs.Targets.{target_rows, with_command}
 use Rattle.review_compare.specs.Agreement.{answer_of}
 use Rattle.review_compare.specs.Compared.{said, ruling_of, rulings, same_choice, same_choices, same_answer, PoliciesAgree}
-use Rattle.review_roots.proofs.LevelLemmas.{fitting, target_decides}
+use Rattle.review_grants.proofs.TargetLemmas.{fitting, target_decides}
 use Rattle.review_compare.proofs.CoveringLemmas.{commands_agree}
 
 choice_same : (c d : Option Bool) → same_choice c d ≡ true → c ≡ d

@@ -11,7 +11,7 @@ use Rattle.sudo_text.specs.declared.line.Place.{Place}
 use Rattle.sudo_grammar.specs.declared.kind.Atom.{Atom}
 use Rattle.sudo_verdict.specs.Grants.{Grant}
 use Rattle.review_grants.specs.Depends.{same_place}
-use Rattle.review_roots.proofs.ListSteps.{flat-one, map-twice, take-more}
+use Rattle.review_grants.proofs.ListSteps.{flat-one, map-twice, take-more}
 use Rattle.review_compare.specs.declared.block.Block.{Block}
 use Rattle.review_compare.specs.declared.block.BlockRow.{BlockRow}
 use Rattle.review_compare.specs.declared.walk.Walk.{Walk}

@@ -14,7 +14,7 @@ use Rattle.sudo_match.specs.Matching.{command_fits}
 use Rattle.sudo_verdict.specs.Last.{last_that}
 use Rattle.sudo_verdict.specs.Questions.{Question}
 use Rattle.sudo_verdict.proofs.Lasts.{last_that-append}
-use Rattle.review_roots.specs.Levels.{allowed}
+use Rattle.review_grants.specs.Targets.{allowed}
 use Rattle.review_compare.specs.declared.block.Block.{Block}
 use Rattle.review_compare.specs.declared.common.Common.{Common}
 use Rattle.review_compare.specs.declared.compared.Compared.{Compared}

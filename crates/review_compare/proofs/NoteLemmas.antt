@@ -26,7 +26,7 @@ use Rattle.review_texts.specs.Notes.{note_in, notes}
 use Rattle.review_grants.specs.declared.marks.Marks.{Marks}
 use Rattle.review_grants.specs.Depends.{has_mark, has_note, is_note, is_note_grant, is_noted_at, is_unmarked, joined_marks, marks_at}
 use Rattle.review_grants.specs.Depends.{same_note, same_place}
-use Rattle.review_roots.proofs.ListSteps.{take-more}
+use Rattle.review_grants.proofs.ListSteps.{take-more}
 use Rattle.review_compare.specs.declared.ruling.Ruled.{Ruled}
 use Rattle.review_compare.specs.Cases.{Cases, UnnotedCasesHold, adds_nothing, bears, cases_if_known, cases_of, cases_on, no_cases}
 use Rattle.review_compare.specs.Cases.{notes_of, said_where, with_noted, with_row, with_row_if, with_rows}

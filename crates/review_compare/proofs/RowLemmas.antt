@@ -3,7 +3,7 @@ use Rattle.std.proofs.Common.{◌≡◌, ◌<◌, ◌+◌, ◌∙◌, ℕ, List,
 use Rattle.std.specs.Prelude.{Option}
 use Rattle.std.proofs.lemmas.List.{map-append}
 use Rattle.sudo_match.specs.declared.request.Tags.{Tags}
-use Rattle.review_roots.proofs.ListSteps.{take-more, map-twice}
+use Rattle.review_grants.proofs.ListSteps.{take-more, map-twice}
 use Rattle.review_compare.specs.declared.ruling.Ruled.{Ruled}
 use Rattle.review_compare.specs.Agreement.{Ruling}
 use Rattle.review_compare.specs.Cells.{ruling_by}

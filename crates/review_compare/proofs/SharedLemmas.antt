@@ -10,7 +10,7 @@ use Rattle.sudo_match.specs.declared.people.Person.{Person}
 use Rattle.sudo_verdict.specs.Values.{host_allowed, user_allowed}
 use Rattle.sudo_verdict.specs.RunasForms.{runas_allows}
 use Rattle.sudo_verdict.specs.Questions.{Question}
-use Rattle.review_roots.proofs.ListSteps.{take-more}
+use Rattle.review_grants.proofs.ListSteps.{take-more}
 use Rattle.review_compare.specs.declared.ask_class.AskClass.{AskClass}
 use Rattle.review_compare.specs.declared.ask_class.AskedWith.{AskedWith}
 use Rattle.review_compare.specs.declared.block.Block.{Block}

@@ -19,7 +19,7 @@ use Rattle.review_compare.specs.declared.compared.Decider.{Decider}
 use Rattle.review_compare.specs.declared.row.Row.{Row}
 use Rattle.review_compare.specs.declared.text.Names.{Names}
 use Rattle.review_compare.specs.declared.witness.Witness.{Witness}
-use Rattle.review_roots.proofs.ListSteps.{range-more}
+use Rattle.review_grants.proofs.ListSteps.{range-more}
 use Rattle.review_compare.specs.Body.Merged.{is_among}
 use Rattle.review_compare.specs.Table.{Source, all_but, found_lines, missing, name_at, names_text, row_head, row_lines}
 use Rattle.review_compare.specs.Table.{row_marks, row_texts, row_verdict}

@@ -8,7 +8,7 @@ use Rattle.sudo_verdict.specs.Questions.{Question}
 use Rattle.sudo_verdict.specs.Grants.{Grant, grants}
 use Rattle.sudo_verdict.proofs.Lasts.{last_that-map}
 use Rattle.review_grants.specs.Depends.{is_note_grant}
-use Rattle.review_roots.proofs.ListSteps.{filter-mapped, map-twice}
+use Rattle.review_grants.proofs.ListSteps.{filter-mapped, map-twice}
 use Rattle.review_compare.specs.Lines.{Choice, all_met, fits_where, nowhere}
 use Rattle.review_compare.specs.Cells.{Decider, NothingDepends, Wide, answered_if_any, deciders, lined_of, wide_of, wide_stands}
 use Rattle.review_compare.specs.Body.LineAtoms.{has_note}

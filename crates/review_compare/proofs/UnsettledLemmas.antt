@@ -7,7 +7,7 @@ use Rattle.std.proofs.lemmas.Bool.{and_parts, or_cases, or_left, or_right}
 use Rattle.std.proofs.lemmas.List.{length-map, map-append, take-append-drop}
 use Rattle.std.proofs.lemmas.List.Elements.{Contains-append_right}
 use Rattle.std.proofs.lemmas.List.Sums.{count_by-le-length, length-filter}
-use Rattle.review_roots.proofs.MemberLemmas.{from-filter}
+use Rattle.review_grants.proofs.ItemLemmas.{from-filter}
 use Rattle.review_compare.specs.declared.changed.Changed.{Changed}
 use Rattle.review_compare.specs.declared.compared.Compared.{Compared}
 use Rattle.review_compare.specs.declared.compared.Decider.{Decider as Named}

@@ -6,7 +6,7 @@ use Rattle.std.proofs.lemmas.List.{map-append}
 use Rattle.sudo_match.specs.Matching.{command_fits}
 use Rattle.sudo_verdict.specs.Last.{last_that}
 use Rattle.sudo_verdict.proofs.Lasts.{last_that-append}
-use Rattle.review_roots.proofs.ListSteps.{take-more}
+use Rattle.review_grants.proofs.ListSteps.{take-more}
 use Rattle.review_compare.specs.declared.ruling.Ruled.{Ruled}
 use Rattle.review_compare.specs.Cells.{Decider, answered_by, answered_if_any, lined_of, verdict_among}
 use Rattle.review_compare.specs.Lines.{Choice, fits_where, is_met, is_unnoted}

@@ -18,7 +18,7 @@ use Rattle.sudo_verdict.specs.Questions.{Question}
 use Rattle.sudo_verdict.specs.Grants.{Grant, grants}
 use Rattle.sudo_verdict.specs.Verdicts.{verdict_on}
 use Rattle.review_grants.specs.Depends.{is_note_grant}
-use Rattle.review_roots.specs.Levels.{allowed, with_command}
+use Rattle.review_grants.specs.Targets.{allowed, with_command}
 use Rattle.review_compare.specs.declared.answer.Answer.{Answer}
 use Rattle.review_compare.specs.declared.answer.Answer.TheVariants as answer
 use Rattle.review_compare.specs.Agreement.{Ruling, Tests, agree}

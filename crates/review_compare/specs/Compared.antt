@@ -10,7 +10,7 @@ use Rattle.sudo_verdict.specs.Values.{is_all}
 use Rattle.sudo_verdict.specs.Questions.{Question}
 use Rattle.sudo_verdict.specs.Grants.{Grant}
 use Rattle.sudo_verdict.specs.Verdicts.{verdict_on}
-use Rattle.review_roots.specs.Levels.{target_rows, with_command}
+use Rattle.review_grants.specs.Targets.{target_rows, with_command}
 use Rattle.review_compare.specs.Agreement.{Ruling, agree}
 use Rattle.review_compare.specs.Covering.{tests_by}
 

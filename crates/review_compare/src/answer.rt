@@ -1,7 +1,7 @@
 //! What the change of a verdict does.
 ghost use Rattle.std.specs.Prelude.{◌≡◌};
 ghost use Rattle.review_compare.specs.Cells as cells;
-ghost use Rattle.review_roots.specs.Levels as levels;
+ghost use Rattle.review_grants.specs.Targets as targets;
 ghost use Rattle.review_compare.specs.Names as names;
 ghost use Rattle.review_compare.specs.Compared as compared;
 
@@ -85,7 +85,7 @@ fn says_same(old: &Verdict, new: &Verdict) -> bool
 }
 
 fn is_allowed(verdict: &Verdict) -> bool
-    ensures { result ≡ levels.allowed verdict.now }
+    ensures { result ≡ targets.allowed verdict.now }
 {
     match verdict {
         Verdict::Allow { .. } => true,

@@ -7,7 +7,7 @@ ghost use Rattle.sudo_verdict.specs.Verdicts.{verdict_of};
 ghost use Rattle.review_texts.specs.declared.note.Note.{Note as TheNote};
 ghost use Rattle.review_texts.specs.Notes.{notes};
 ghost use Rattle.review_grants.specs.Depends.{has_mark, is_note_grant};
-ghost use Rattle.review_roots.specs.Levels.{with_command};
+ghost use Rattle.review_grants.specs.Targets.{with_command};
 ghost use Rattle.review_compare.specs.Cases as spec;
 ghost use Rattle.review_compare.specs.Compared.{said};
 ghost use Rattle.review_compare.specs.Blocks.{block_resolves, block_stands, standing};

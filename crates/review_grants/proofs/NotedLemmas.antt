@@ -36,18 +36,11 @@ use Rattle.review_grants.specs.Depends.{IsMarked, marks_at, marks_in, same_key, 
 use Rattle.review_grants.specs.Body.Noted.{body_has_note, body_notes, command_has_note, command_notes, definition_has_note, entry_has_note}
 use Rattle.review_grants.specs.Body.Noted.{entry_notes, is_note_member, is_noted, list_has_note, member_notes, noted_if, policy_notes}
 use Rattle.review_grants.specs.Body.Noted.{section_has_note, section_notes}
+use Rattle.review_grants.proofs.ItemLemmas.{neither, or-false}
 
 and-no : (b : Bool) → (b && false) ≡ false
 and-no true = refl
 and-no false = refl
-
-or-no : (b : Bool) → (b || false) ≡ b
-or-no true = refl
-or-no false = refl
-
-neither : (a b : Bool) → (a || b) ≡ false → (a ≡ false) × (b ≡ false)
-neither false b h = (refl, h)
-neither true b h = cc
 
 -- ---- The notes of grants
 
@@ -68,7 +61,7 @@ module _ (p : Policy) (at : Place) (note : Note) where
   of-one : (place : Place) (o : Option Note)
       → list_any (is_noted at note) (noted_if place o) ≡ (same_place place at && is_note note o)
   of-one place None = sym (and-no (same_place place at))
-  of-one place (Some found) = or-no (same_place place at && same_note note found)
+  of-one place (Some found) = or-false (same_place place at && same_note note found)
 
   of-atoms : (place : Place) (users : List Member) (s : Section) (i : ℕ) (ws : List Signed)
       → list_any grant_noted (map (grant_of place users s i) ws) ≡ list_any (is_noted at note) (flat_map (member_notes place) ws)
@@ -186,7 +179,7 @@ module _ (p : Policy) (none : list_any entry_has_note p.entries ≡ false) where
       → list_any is_note_atom ws ≡ false
   of-alone m None ws h is =
       let own : ws ≡ record { negated = is_negated m; atom = m.atom } ∷ [] = cc in
-      ap (list_any is_note_atom) own ∙ or-no (is_note_member m) ∙ h
+      ap (list_any is_note_atom) own ∙ or-false (is_note_member m) ∙ h
   of-alone m (Some name) ws h is = cc
 
   of-member : (inner : List Member → Option (List Signed)) → KeepsNone inner → (m : Member) (o : Option (List Member))
@@ -222,9 +215,9 @@ module _ (p : Policy) (none : list_any entry_has_note p.entries ≡ false) where
   unfolding written_form
   of-form m h =
       list_any-append is_note_atom (member_written kind.Cmnd p m) []
-      ∙ or-no (list_any is_note_atom (member_written kind.Cmnd p m))
+      ∙ or-false (list_any is_note_atom (member_written kind.Cmnd p m))
       ∙ of-written (reading_within writing kind.Cmnd p 64 (m ∷ []))
-      (λ ws is. of-reading 64 (m ∷ []) ws (or-no (is_note_member m) ∙ h) is)
+      (λ ws is. of-reading 64 (m ∷ []) ws (or-false (is_note_member m) ∙ h) is)
 
   of-atom : (place : Place) (o : Option Note) → is_some o ≡ false → noted_if place o ≡ []
   of-atom place None h = refl
@@ -268,7 +261,7 @@ note-more x at note had has found marks is =
         ≡ (is_marked (had (key_of at)) note || (b && same_note note x.note))
     go true same =
         marks ∙ ap (λ (q : Place). is_marked (had (key_of q)) note || same_note note x.note) (place-is x.place at same)
-    go false other = sym (or-no (is_marked (had (key_of at)) note))
+    go false other = sym (or-false (is_marked (had (key_of at)) note))
 
 filter-alike : {X : Type 0} (f g : X → Bool) → ((x : X) → f x ≡ g x) → (xs : List X) → filter f xs ≡ filter g xs
 filter-alike f g same [] = refl

@@ -35,8 +35,9 @@ use Rattle.review_roots.specs.Body.Unnamed.{runas_groups}
 use Rattle.review_roots.specs.Body.Unnamed.{runas_list, runas_users}
 use Rattle.review_roots.specs.KnownGroups.{list_names, names_group}
 use Rattle.review_roots.specs.States.{with_added}
-use Rattle.review_roots.proofs.GroupLemmas.{or-false, same-last}
-use Rattle.review_roots.proofs.MemberLemmas.{flat-same, neither}
+use Rattle.review_grants.proofs.ItemLemmas.{neither, or-false}
+use Rattle.review_roots.proofs.GroupLemmas.{same-last}
+use Rattle.review_roots.proofs.MemberLemmas.{flat-same}
 
 -- ---- A list of groups that does not name a group says of it what it says by ALL
 

@@ -33,7 +33,7 @@ use Rattle.review_roots.specs.declared.effect.Effect.{Effect}
 use Rattle.review_roots.specs.Body.Effects.{effect_of}
 use Rattle.review_roots.specs.Blocks.{Row, row_of, sign_of, block_row, block_rows, AreBlocks}
 use Rattle.review_roots.specs.Body.Heads.{IsInForce, signed_row, head_resolves}
-use Rattle.review_roots.proofs.ListSteps.{take-more, take-enumerated, flat-one, all-taken, all-there, map-same, map-twice}
+use Rattle.review_grants.proofs.ListSteps.{take-more, take-enumerated, flat-one, all-taken, all-there, map-same, map-twice}
 
 -- ---- The block of a command
 

@@ -15,7 +15,7 @@ use Rattle.review_roots.specs.Body.Candidates.{states_of}
 use Rattle.review_roots.specs.Body.Found.{IsDrawn, kept_steps, reaches}
 use Rattle.review_roots.specs.declared.state.State.{State}
 use Rattle.review_roots.specs.Ranks.{is_at_least}
-use Rattle.review_roots.proofs.ListSteps.{take-more}
+use Rattle.review_grants.proofs.ListSteps.{take-more}
 use Rattle.review_roots.proofs.SearchLemmas.{to-map}
 
 -- one item more of a list of references that is filtered

@@ -23,7 +23,7 @@ use Rattle.review_roots.specs.declared.way.Password.{Password}
 use Rattle.review_roots.specs.declared.way.Password.TheVariants as password
 use Rattle.review_roots.specs.Asked.{better, given_alone, given_asked, is_better, nothing}
 use Rattle.review_roots.specs.Chains.{HasNoPath, LeadsAlong, Steps}
-use Rattle.review_roots.specs.Levels.{target_rows}
+use Rattle.review_grants.specs.Targets.{target_rows}
 use Rattle.review_roots.specs.Ranks.{is_at_least}
 use Rattle.review_roots.specs.Sought.{any_steps, free_steps, unasked_steps}
 use Rattle.review_roots.specs.States.{given_between, group_at, level_for, person_of, steps_to}

@@ -15,7 +15,7 @@ use Rattle.review_roots.specs.Blocks.{block_row, block_rows, with_row, with_rows
 use Rattle.review_roots.specs.Body.Effects.{allows_one, effect_of, free_behind, free_by, level_behind, level_by, marks_behind, marks_by}
 use Rattle.review_roots.specs.Body.Effects.{own_marks, unasked_behind, unasked_by}
 use Rattle.review_roots.specs.Body.Rows.{by_behind}
-use Rattle.review_roots.proofs.NoteLemmas.{or-false}
+use Rattle.review_grants.proofs.ItemLemmas.{or-false}
 
 -- ---- The notes on which it depends
 

@@ -14,13 +14,15 @@ use Rattle.review_grants.specs.Rows.{is_row}
 use Rattle.review_roots.specs.declared.block.Block.{Block}
 use Rattle.review_roots.specs.declared.given.AllowingRow.{AllowingRow}
 use Rattle.review_roots.specs.declared.given.Given.{Given}
-use Rattle.review_roots.specs.Levels.{after_marks, after_one, denies, target_rows}
+use Rattle.review_roots.specs.Levels.{after_marks, after_one, denies}
+use Rattle.review_grants.specs.Targets.{target_rows}
 use Rattle.review_roots.specs.Passwords.{after_free, after_unasked}
 use Rattle.review_roots.specs.Asked.{is_allowing, allowing_row, given_by, nothing}
 use Rattle.review_roots.specs.Blocks.{Row, row_of, block_row, block_rows, AreBlocks, with_row, with_rows, stands}
 use Rattle.review_roots.specs.Blocks.{standing_rows}
-use Rattle.review_roots.proofs.NoteLemmas.{grant_stands}
-use Rattle.review_roots.proofs.ListSteps.{filter-constant, filter-mapped, filter-twice}
+use Rattle.review_grants.proofs.NoteTests.{grant_stands}
+use Rattle.review_grants.proofs.ListSteps.{filter-constant, filter-mapped}
+use Rattle.review_roots.proofs.ListSteps.{filter-twice}
 
 -- ---- Rows, one after the other
 

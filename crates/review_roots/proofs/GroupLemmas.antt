@@ -19,7 +19,8 @@ use Rattle.sudo_verdict.specs.Last.{last_that}
 use Rattle.sudo_verdict.specs.Values.{allows, value}
 use Rattle.review_roots.specs.KnownGroups.{names_group, list_names, body_users, OtherGroupsChangeNoList}
 use Rattle.review_roots.specs.States.{with_added}
-use Rattle.review_roots.proofs.MemberLemmas.{neither, none-in}
+use Rattle.review_grants.proofs.ItemLemmas.{neither}
+use Rattle.review_roots.proofs.MemberLemmas.{none-in}
 
 pub or-false : (a : Bool) → (a || false) ≡ a
 or-false true = refl

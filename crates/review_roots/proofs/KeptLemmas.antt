@@ -30,8 +30,9 @@ use Rattle.review_roots.specs.Order.{state_cmp}
 use Rattle.review_roots.specs.States.{all_states, state_with, states_with}
 use Rattle.review_roots.proofs.CandidateLemmas.{has-in, in-has}
 use Rattle.review_roots.proofs.CutLemmas.{cut-unnamed}
-use Rattle.review_roots.proofs.ListSteps.{flat-range}
-use Rattle.review_roots.proofs.MemberLemmas.{all-of, find-none, find-there, from-append, from-filter, from-flat, in-range, to-flat}
+use Rattle.review_grants.proofs.ListSteps.{flat-range}
+use Rattle.review_roots.proofs.MemberLemmas.{all-of, find-none, find-there, from-append, from-flat, in-range, to-flat}
+use Rattle.review_grants.proofs.ItemLemmas.{from-filter}
 use Rattle.review_roots.proofs.OrderLemmas.{behind-itself, one-user}
 use Rattle.review_roots.proofs.RootLemmas.{range-has}
 use Rattle.review_roots.proofs.SearchLemmas.{contains-at, contains-head, from-map, in-filter, to-map}

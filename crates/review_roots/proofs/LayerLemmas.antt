@@ -28,7 +28,8 @@ use Rattle.review_roots.specs.Chains.{Steps, Path, here, more}
 use Rattle.review_roots.specs.Order.{IsInOrder, state_cmp}
 use Rattle.review_roots.specs.Ranks.{is_at_least}
 use Rattle.review_roots.specs.Ways.{step_on}
-use Rattle.review_roots.proofs.MemberLemmas.{all-of, from-filter}
+use Rattle.review_roots.proofs.MemberLemmas.{all-of}
+use Rattle.review_grants.proofs.ItemLemmas.{from-filter}
 use Rattle.review_roots.proofs.OrderLemmas.{from-picked, kept-order, picked-order, to-picked}
 use Rattle.review_roots.proofs.SearchLemmas.{at-contains, contains-at, from-map, get-append, in-filter, path-state, to-map}
 

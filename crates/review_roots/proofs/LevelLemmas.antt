@@ -1,47 +1,28 @@
 -- What a level says of the last row of which a test holds.
-use Rattle.std.proofs.Common.{◌≡◌, ◌∙◌, ℕ, Bool, true, false, not, cond, ◌&&◌, ◌||◌, List, [], ◌∷◌, Option, Some, None, ap, refl}
+use Rattle.std.proofs.Common.{◌≡◌, ◌∙◌, ℕ, Bool, true, false, not, cond, ◌||◌, List, [], ◌∷◌, Option, Some, None, ap, refl}
 use Rattle.std.proofs.Common.{subst, sym}
 use Rattle.std.specs.Prelude.{filter, fold, unwrap_or, option_map}
 use Rattle.std.specs.Option.{option_or}
 use Rattle.sudo_text.specs.declared.line.Place.{Place}
 use Rattle.sudo_grammar.specs.declared.policy.Policy.{Policy}
 use Rattle.sudo_match.specs.declared.request.Tags.{Tags}
-use Rattle.sudo_match.specs.Matching.{command_fits}
 use Rattle.sudo_verdict.specs.Last.{last_that}
 use Rattle.sudo_verdict.specs.Values.{is_all}
-use Rattle.sudo_verdict.specs.RunasForms.{runas_allows}
 use Rattle.sudo_verdict.specs.Questions.{Question}
 use Rattle.sudo_verdict.specs.Grants.{Grant, grants}
-use Rattle.sudo_verdict.specs.Verdicts.{decided_by, verdict_if_any, verdict_on}
+use Rattle.sudo_verdict.specs.Verdicts.{decided_by, verdict_if_any}
 use Rattle.review_roots.specs.declared.level.Level.{Level}
 use Rattle.review_roots.specs.declared.level.Level.TheVariants as level
 use Rattle.review_grants.specs.declared.marks.Marks.{Marks}
 use Rattle.review_grants.specs.Depends.{is_note_grant, is_unmarked, joined_marks, marks_at, unmarked}
-use Rattle.review_grants.specs.Rows.{rows, row_applies}
 use Rattle.review_grants.specs.Unnoted.{FailsByNotes}
 use Rattle.review_roots.specs.Ranks.{best}
-use Rattle.review_roots.specs.Levels.{after_signed, after_marks, after_one, after_row, allowed, level_of, lowered, marks_of}
-use Rattle.review_roots.specs.Levels.{raised, target_rows, verdict_where, with_command, AllAllowsAll, NoneAllowsNone, VerdictIsWhere}
-use Rattle.review_grants.proofs.RowLemmas.{last_that-filter, last_row}
+use Rattle.review_roots.specs.Levels.{after_signed, after_marks, after_one, after_row, level_of, lowered, marks_of}
+use Rattle.review_roots.specs.Levels.{raised, AllAllowsAll, NoneAllowsNone}
+use Rattle.review_grants.specs.Targets.{allowed, target_rows, verdict_where, with_command}
 use Rattle.review_roots.proofs.GivenLemmas.{rows_for_target}
-use Rattle.review_roots.proofs.LevelSteps.{runas_same}
-use Rattle.review_roots.proofs.NoteLemmas.{grant_stands, holds-of-all, holds-of-no-note, joined-marked, note-not-all}
-use Rattle.review_roots.proofs.NoteLemmas.{or-false, or-true, unheld}
-
--- ---- The verdict, from the rows for the target
-
-abbrev pub fitting : List ℕ → List ℕ → Grant → Bool
-fitting c x g = command_fits g.atom c x
-
-pub target_decides :
-    (p : Policy) (q : Question) (c x : List ℕ) → verdict_on p (with_command q c x)
-    ≡ verdict_if_any (last_that (fitting c x) (target_rows p q))
-target_decides p q c x =
-    last_row p (with_command q c x)
-    ∙ ap verdict_if_any
-    (last_that-filter (row_applies p (with_command q c x)) (λ g. runas_allows p q g.runas) (fitting c x)
-    (λ g. ap (λ b. b && command_fits g.atom c x) (runas_same p q c x g.runas))
-    (rows p q.user q.host))
+use Rattle.review_grants.proofs.NoteTests.{grant_stands, holds-of-all, holds-of-no-note, joined-marked, note-not-all, unheld}
+use Rattle.review_grants.proofs.ItemLemmas.{or-false, or-true}
 
 -- ---- A level and the sign of the last row that matches
 
@@ -222,7 +203,3 @@ all_allows p q level none c x f fails = (level_says p q c x f fails).1 none leve
 
 pub none_allows : NoneAllowsNone
 none_allows p q level c x f fails = (level_says p q c x f fails).0 level
-
-pub verdict_is_where : VerdictIsWhere
-unfolding verdict_on
-verdict_is_where p q = (record { only = λ g does. does; unnoted = λ g none does. does }, refl)

@@ -1,5 +1,4 @@
 pub mod LevelLemmas
-pub mod LevelSteps
 pub mod PasswordLemmas
 pub mod LevelVectors
 pub mod StepVectors
@@ -40,7 +39,6 @@ pub mod SoleLemmas
 pub mod UserLemmas
 pub mod KeptLemmas
 pub mod NamingLemmas
-pub mod NoteLemmas
 pub mod MayLemmas
 pub mod PathLemmas
 pub mod TurnedLemmas

@@ -2,10 +2,9 @@
 use Rattle.std.proofs.Common.{◌≡◌, ◌<◌, ◌≤◌, ◌∙◌, ℕ, zero, suc, true, false, List, [], ◌∷◌, ◌++◌, ◌&&◌, ap, arith, drop, false}
 use Rattle.std.proofs.Common.{flat_map, get_or, length}
 use Rattle.std.proofs.Common.{map, refl, subst, sym, take}
-use Rattle.std.proofs.Common.{Option, Some, None, Bor, Global, Vec, option_copied}
+use Rattle.std.proofs.Common.{Option, Some, None, Global, Vec, option_copied}
 use Rattle.std.specs.Prelude.{All, slice_get}
 use Rattle.std.specs.List.{Contains, slice_index_or}
-use Rattle.std.specs.Option.{option_or}
 use Rattle.std.proofs.lemmas.List.{drop_all, take_all}
 use Rattle.std.proofs.lemmas.List.Elements.{All-contains, All-push, All-weaker, Contains-get_or}
 use Rattle.sudo_grammar.specs.declared.kind.Signed.{Signed}
@@ -51,10 +50,6 @@ there (x ∷ xs) (suc i) d less = there xs i d (omega (arith, less))
 -- an item that is there is not another one in its place
 pub same-there : {X : Type 0} (xs : List X) (i : ℕ) (d k : X) → i < length xs → get_or xs i d ≡ get_or xs i k
 same-there xs i d k less = let e : Some (get_or xs i d) ≡ Some (get_or xs i k) = sym (there xs i d less) ∙ there xs i k less in cc
-
-pub copied-or : {X : Type 0} (a b : Option (Bor X)) → option_copied (option_or a b) ≡ option_or (option_copied a) (option_copied b)
-copied-or None b = refl
-copied-or (Some x) b = refl
 
 pub all-mapped : {R X : Type 0} (P : X → Type 0) (now : R → X) (xs : List R) (i : ℕ) (x : R) → i < length xs → x ≡ get_or xs i x
     → All P (map now xs) → P (now x)

@@ -1,18 +1,14 @@
 -- Items of lists: of those that are mapped and joined, of those that are filtered, and the first of a kind.
-use Rattle.std.proofs.Common.{◌≡◌, ◌<◌, ◌+◌, ◌∙◌, ℕ, zero, suc, Bool, true, false, cond, ◌||◌, List, [], ◌∷◌, ◌++◌, ap, arith}
+use Rattle.std.proofs.Common.{◌≡◌, ◌<◌, ◌+◌, ◌∙◌, ℕ, zero, suc, Bool, true, false, cond, List, [], ◌∷◌, ◌++◌, ap, arith}
 use Rattle.std.proofs.Common.{flat_map, refl, subst, sym, Some, None, inl, inr, ◌⊎◌}
 use Rattle.std.specs.Prelude.{All, filter, find, slice_get}
 use Rattle.std.specs.List.{Contains, list_any, range_with_len}
 use Rattle.std.proofs.lemmas.List.Elements.{All-contains_itself, All-weaker}
 use Rattle.std.proofs.lemmas.List.Elements.{Contains-append_left, Contains-append_right, filter-append}
 use Rattle.std.proofs.lemmas.List.Folds.{list_any-append}
-use Rattle.review_roots.proofs.ListSteps.{range-more}
+use Rattle.review_grants.proofs.ItemLemmas.{neither}
+use Rattle.review_grants.proofs.ListSteps.{range-more}
 use Rattle.review_roots.proofs.SearchLemmas.{at-contains, contains-at, contains-cons, contains-head, get-append-cases}
-
--- neither of two tests passes
-pub neither : (a b : Bool) → (a || b) ≡ false → (a ≡ false) × (b ≡ false)
-neither true b e = cc
-neither false b e = (refl, e)
 
 -- what holds of each item holds of all
 pub all-of : {X : Type 0} (P : X → Type 0) (xs : List X) → ((x : X) → Contains xs x → P x) → All P xs
@@ -49,34 +45,6 @@ to-flat f xs x y inside has = let k = contains-at xs x inside in at xs k.0 k.1
         let same : z ≡ x = cc in
         Contains-append_left (f z) (flat_map f zs) y (subst (λ w. Contains (f w) y) (sym same) has)
     at (z ∷ zs) (suc k) e = Contains-append_right (f z) (flat_map f zs) y (at zs k e)
-
--- an item of a filtered list is one of the list, and passes
-pub from-filter : {X : Type 0} (t : X → Bool) (xs : List X) (x : X) → Contains (filter t xs) x → Contains xs x × (t x ≡ true)
-from-filter {X} t xs x h = at xs h
-  where
-    at : (xs : List X) → Contains (filter t xs) x → Contains xs x × (t x ≡ true)
-    at [] h = absurd (omega (arith, h.1))
-    at (y ∷ ys) h = go (t y) refl h (at ys)
-      where
-        widen : Contains ys x × (t x ≡ true) → Contains (y ∷ ys) x × (t x ≡ true)
-        widen k = (contains-cons y ys x k.0, k.1)
-
-        first : t y ≡ true → Contains (y ∷ []) x ⊎ Contains (filter t ys) x
-            → (Contains (filter t ys) x → Contains ys x × (t x ≡ true)) → Contains (y ∷ ys) x × (t x ≡ true)
-        first passes (inl one) rest =
-            let k = contains-at (y ∷ []) x one in
-            let same : y ≡ x = only k.0 k.1 in
-            (contains-head y ys x same, ap t (sym same) ∙ passes)
-          where
-            only : (k : ℕ) → slice_get (y ∷ []) k ≡ Some x → y ≡ x
-            only zero e = cc
-            only (suc k) e = cc
-        first passes (inr other) rest = widen (rest other)
-
-        go : (b : Bool) → t y ≡ b → Contains (cond b (y ∷ filter t ys) (filter t ys)) x
-            → (Contains (filter t ys) x → Contains ys x × (t x ≡ true)) → Contains (y ∷ ys) x × (t x ≡ true)
-        go true is h rest = first is (from-append (y ∷ []) (filter t ys) x h) rest
-        go false is h rest = widen (rest h)
 
 -- two lists for each item that are the same are the same end to end
 pub flat-same : {X Y : Type 0} (f g : X → List Y) (xs : List X) → ((x : X) → Contains xs x → f x ≡ g x) → flat_map f xs ≡ flat_map g xs

@@ -22,8 +22,8 @@ use Rattle.review_roots.specs.KnownGroups.{list_names}
 use Rattle.review_roots.specs.States.{group_at, person_of, with_added}
 use Rattle.review_roots.proofs.AlikeLemmas.{added-value}
 use Rattle.review_roots.proofs.IndexLemmas.{answer-at}
-use Rattle.review_roots.proofs.ListSteps.{map-same, map-twice, take-more}
-use Rattle.review_roots.proofs.MemberLemmas.{neither}
+use Rattle.review_grants.proofs.ListSteps.{map-same, map-twice, take-more}
+use Rattle.review_grants.proofs.ItemLemmas.{neither}
 
 -- the rows of the lists of blocks are those of the blocks
 pub rows-are :

@@ -30,7 +30,8 @@ use Rattle.review_roots.proofs.IndexLemmas.{indices-filtered}
 use Rattle.review_roots.proofs.LayerLemmas.{aims-are, map-at}
 use Rattle.review_roots.proofs.LikeLemmas.{barred}
 use Rattle.review_roots.proofs.ListSteps.{drop-next}
-use Rattle.review_roots.proofs.MemberLemmas.{all-of, from-filter, neither}
+use Rattle.review_roots.proofs.MemberLemmas.{all-of}
+use Rattle.review_grants.proofs.ItemLemmas.{from-filter, neither}
 use Rattle.review_roots.proofs.SearchLemmas.{at-contains, contains-at, in-filter}
 
 -- ---- One index

@@ -30,7 +30,8 @@ use Rattle.review_roots.specs.Order.{person_name, state_cmp, user_name}
 use Rattle.review_roots.specs.Order.{IsInOrder}
 use Rattle.review_roots.specs.Body.Candidates.{has_state}
 use Rattle.review_roots.proofs.CandidateLemmas.{has-in, in-has}
-use Rattle.review_roots.proofs.MemberLemmas.{all-of, from-append, from-filter}
+use Rattle.review_roots.proofs.MemberLemmas.{all-of, from-append}
+use Rattle.review_grants.proofs.ItemLemmas.{from-filter}
 use Rattle.review_roots.proofs.SearchLemmas.{at-contains, contains-at, contains-cons, contains-head, from-map, to-map}
 use Rattle.review_roots.proofs.UserLemmas.{one-row}
 

@@ -19,14 +19,14 @@ use Rattle.review_grants.specs.Unnoted.{FailsByNotes}
 use Rattle.review_roots.specs.Ranks.{best}
 use Rattle.review_roots.specs.declared.level.Level.{Level}
 use Rattle.review_roots.specs.declared.level.Level.TheVariants as level
-use Rattle.review_roots.specs.Levels.{after_marks, after_one, after_row, after_signed, denies, marks_of, raised, target_rows}
-use Rattle.review_roots.specs.Levels.{verdict_where, with_command}
+use Rattle.review_roots.specs.Levels.{after_marks, after_one, after_row, after_signed, denies, marks_of, raised}
+use Rattle.review_grants.specs.Targets.{target_rows, verdict_where, with_command}
 use Rattle.review_roots.specs.Passwords.{after_free, after_unasked, free_after, free_row, freely_allowed, is_free, is_off, is_unasked}
 use Rattle.review_roots.specs.Passwords.{nopasswd, unasked_after, unasked_row}
 use Rattle.review_roots.specs.Passwords.{AskedAlways, FreeIsAll, FreeIsUnasked, FreeNeedsNoPassword}
 use Rattle.review_roots.proofs.GivenLemmas.{rows_for_target}
-use Rattle.review_roots.proofs.NoteLemmas.{grant_stands, holds-of-all, holds-of-no-note, joined-marked, note-not-all}
-use Rattle.review_roots.proofs.NoteLemmas.{or-false, or-true, unheld}
+use Rattle.review_grants.proofs.NoteTests.{grant_stands, holds-of-all, holds-of-no-note, joined-marked, note-not-all, unheld}
+use Rattle.review_grants.proofs.ItemLemmas.{or-false, or-true}
 
 -- SETENV, which ALL adds, is no tag of that pair
 setenv_apart : (t : Tags) → nopasswd (or_tags t (tags_named (setenv ∷ []))) ≡ nopasswd t

@@ -22,7 +22,8 @@ use Rattle.review_roots.specs.Blocks.{Row, row_of, with_row, with_rows}
 use Rattle.review_roots.specs.Sought.{any_steps}
 use Rattle.review_roots.specs.Chains.{LeadsAlong}
 use Rattle.review_grants.specs.Depends.{is_unmarked}
-use Rattle.review_roots.specs.Levels.{after_row, after_signed, target_rows}
+use Rattle.review_roots.specs.Levels.{after_row, after_signed}
+use Rattle.review_grants.specs.Targets.{target_rows}
 use Rattle.review_roots.specs.Ranks.{best, is_at_least}
 use Rattle.review_roots.specs.Roots.{has_zero, is_itself}
 use Rattle.review_roots.specs.States.{given_between, group_at, person_of, state_with}

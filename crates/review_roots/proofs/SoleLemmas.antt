@@ -24,7 +24,7 @@ use Rattle.review_roots.specs.Body.Alike.{AreAlike, AreFirstsBy, IsFirstBy, host
 use Rattle.review_roots.specs.Body.Raising.{passes, passes_at}
 use Rattle.review_roots.proofs.IndexLemmas.{answer-at}
 use Rattle.review_roots.proofs.LayerLemmas.{get-append-split}
-use Rattle.review_roots.proofs.ListSteps.{take-more}
+use Rattle.review_grants.proofs.ListSteps.{take-more}
 use Rattle.review_roots.proofs.LoopLemmas.{there}
 use Rattle.review_roots.proofs.UserLemmas.{before}
 

@@ -32,7 +32,7 @@ use Rattle.review_roots.proofs.IndexLemmas.{any-are, answer-at}
 use Rattle.review_roots.proofs.MayLemmas.{uncounted}
 use Rattle.review_roots.proofs.KeptLemmas.{host-keeps}
 use Rattle.review_roots.proofs.LayerLemmas.{map-at}
-use Rattle.review_roots.proofs.MemberLemmas.{neither}
+use Rattle.review_grants.proofs.ItemLemmas.{neither}
 use Rattle.review_roots.proofs.OrderLemmas.{kept-order}
 use Rattle.review_roots.proofs.SearchLemmas.{at-least-below, at-least-trans, at-contains, both-all, from-map, in-filter, to-map}
 use Rattle.review_roots.proofs.WeakLemmas.{any-weaker, quiet-between, weak-level, weak-nothing}

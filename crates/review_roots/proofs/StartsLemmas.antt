@@ -10,7 +10,7 @@ use Rattle.review_roots.specs.declared.search.Found.{Found}
 use Rattle.review_roots.specs.declared.state.State.{State}
 use Rattle.review_roots.specs.Body.Found.{AreStarts, AreStartsBefore, IsFoundAt, IsFoundBefore, with_start}
 use Rattle.review_roots.specs.States.{is_start}
-use Rattle.review_roots.proofs.ListSteps.{take-more}
+use Rattle.review_grants.proofs.ListSteps.{take-more}
 use Rattle.review_roots.proofs.LoopLemmas.{there}
 
 -- ---- No user is found

@@ -30,7 +30,7 @@ use Rattle.review_roots.specs.Ranks.{is_at_least, rank}
 use Rattle.review_roots.specs.States.{given_between, group_at, level_for, step_given}
 use Rattle.review_roots.proofs.GivenLemmas.{blocks_give}
 use Rattle.review_roots.proofs.IndexLemmas.{answer-at, any-are, parts-are}
-use Rattle.review_roots.proofs.ListSteps.{map-same}
+use Rattle.review_grants.proofs.ListSteps.{map-same}
 use Rattle.review_roots.proofs.WeakLemmas.{weak-asked, weak-level}
 
 -- ---- A runas does not tell users of another name apart

@@ -39,7 +39,7 @@ use Rattle.review_roots.proofs.FirstLemmas.{first-along, first-states, one-place
 use Rattle.review_roots.proofs.FreeLemmas.{best-level, leading-at}
 use Rattle.review_roots.proofs.KeptLemmas.{blocks_for, host-keeps}
 use Rattle.review_roots.proofs.LayerLemmas.{IsFresh, get-append-split, pick-none, pick-some, pick-state, spread-given}
-use Rattle.review_roots.proofs.MemberLemmas.{from-filter}
+use Rattle.review_grants.proofs.ItemLemmas.{from-filter}
 use Rattle.review_roots.proofs.OrderLemmas.{behind-itself, behind-trans, from-picked, to-picked}
 use Rattle.review_roots.proofs.PathLemmas.{AreSame, HasWithin, alike-turn, itself, kept-path, plain-path, step-same}
 use Rattle.review_roots.proofs.RootLemmas.{start-is, starts, states-have}

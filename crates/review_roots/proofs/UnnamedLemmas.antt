@@ -10,7 +10,8 @@ use Rattle.review_roots.specs.declared.block.Block.{Block}
 use Rattle.review_roots.specs.Body.Unnamed.{AreGroupIds, AreUserIds, block_groups, block_users, fits_by_name, is_named}
 use Rattle.review_roots.specs.Body.Unnamed.{is_unnamed, named_ids}
 use Rattle.review_roots.specs.KnownGroups.{names_group}
-use Rattle.review_roots.proofs.MemberLemmas.{neither, none-in, none-there}
+use Rattle.review_grants.proofs.ItemLemmas.{neither}
+use Rattle.review_roots.proofs.MemberLemmas.{none-in, none-there}
 use Rattle.review_roots.proofs.SearchLemmas.{in-filter, to-map}
 
 -- lists of users of some blocks, and lists of groups of all

@@ -31,7 +31,7 @@ use Rattle.review_roots.specs.Passwords.{free_after, free_row, nopasswd}
 use Rattle.review_roots.specs.Ranks.{best, rank, is_at_least}
 use Rattle.review_roots.specs.States.{given_between, level_for}
 use Rattle.review_roots.proofs.GivenLemmas.{blocks_give}
-use Rattle.review_roots.proofs.MemberLemmas.{neither}
+use Rattle.review_grants.proofs.ItemLemmas.{neither}
 
 -- ---- Ranks
 

@@ -14,7 +14,8 @@ use Rattle.review_roots.specs.declared.level.Level.TheVariants as level
 use Rattle.review_roots.specs.declared.given.Given.{Given}
 use Rattle.review_roots.specs.declared.given.AllowingRow.{AllowingRow}
 use Rattle.review_grants.specs.Depends.{unmarked}
-use Rattle.review_roots.specs.Levels.{denies, level_of, marks_of, target_rows}
+use Rattle.review_roots.specs.Levels.{denies, level_of, marks_of}
+use Rattle.review_grants.specs.Targets.{target_rows}
 use Rattle.review_roots.specs.Passwords.{is_free, is_unasked}
 use Rattle.review_roots.specs.Ranks.{rank}
 

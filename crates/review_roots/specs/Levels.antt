@@ -1,23 +1,18 @@
 -- How much the rows for a target allow, whatever the command: a fold over their signs and over which of them are ALL.
 -- sudoers(5), "User Specification": where several rows match, the last one is used. A note may be met or not: the level is the
 -- better of both, an upper bound.
-use Rattle.std.specs.Prelude.{◌≡◌, ℕ, Bool, true, false, ◌||◌, if◌then◌else◌, List, filter, fold}
+use Rattle.std.specs.Prelude.{◌≡◌, ℕ, Bool, true, false, ◌||◌, if◌then◌else◌, List, fold}
 use Rattle.sudo_grammar.specs.declared.policy.Policy.{Policy}
-use Rattle.sudo_match.specs.declared.request.Verdict.{Verdict}
-use Rattle.sudo_match.specs.declared.request.Verdict.TheVariants.{Allow}
-use Rattle.sudo_verdict.specs.Last.{last_that}
 use Rattle.sudo_verdict.specs.Values.{is_all}
-use Rattle.sudo_verdict.specs.RunasForms.{runas_allows}
 use Rattle.sudo_verdict.specs.Questions.{Question}
-use Rattle.sudo_verdict.specs.Grants.{Grant, applies, grants}
-use Rattle.sudo_verdict.specs.Verdicts.{verdict_if_any, verdict_on}
+use Rattle.sudo_verdict.specs.Grants.{Grant}
 use Rattle.review_grants.specs.declared.marks.Marks.{Marks}
 use Rattle.review_grants.specs.Depends.{is_note_grant, is_unmarked, joined_marks, marks_at, unmarked}
 use Rattle.review_grants.specs.Unnoted.{FailsByNotes}
+use Rattle.review_grants.specs.Targets.{allowed, target_rows, verdict_where, with_command}
 use Rattle.review_roots.specs.declared.level.Level.{Level}
 use Rattle.review_roots.specs.declared.level.Level.TheVariants as level
 use Rattle.review_roots.specs.Ranks.{best}
-use Rattle.review_grants.specs.Rows.{rows}
 
 -- after a listed command that is denied
 abbrev pub lowered : Level → Level
@@ -68,22 +63,6 @@ after_marks p before g = marks_after before (marks_at p g.place) (is_all g.atom)
 abbrev pub marks_of : Policy → List Grant → Marks
 marks_of p gs = fold (after_marks p) unmarked gs
 
--- the rows of the user on the host whose runas allows the target and the group
-abbrev pub target_rows : Policy → Question → List Grant
-target_rows p q = filter (λ g. runas_allows p q g.runas) (rows p q.user q.host)
-
--- the question with another command
-abbrev pub with_command : Question → List ℕ → List ℕ → Question
-with_command q command arguments = record q { command = command; arguments = arguments }
-
-abbrev pub allowed : Verdict → Bool
-allowed (Allow place tags) = true
-allowed _ = false
-
--- the verdict by the last grant of which a test holds
-abbrev pub verdict_where : Policy → (Grant → Bool) → Verdict
-verdict_where p f = verdict_if_any (last_that f (grants p))
-
 -- where the level is All and depends on no note, every command is allowed, whichever notes are met
 abbrev pub AllAllowsAll : Type 0
 AllAllowsAll =
@@ -97,8 +76,3 @@ NoneAllowsNone =
     (p : Policy) (q : Question) → level_of p (target_rows p q) ≡ level.None →
     (command arguments : List ℕ) (f : Grant → Bool) → FailsByNotes p (with_command q command arguments) f →
     allowed (verdict_where p f) ≡ false
-
--- the verdict on a request is that of the case in which all notes are met
-abbrev pub VerdictIsWhere : Type 0
-VerdictIsWhere =
-    (p : Policy) (q : Question) → FailsByNotes p q (applies p q) × (verdict_on p q ≡ verdict_where p (applies p q))

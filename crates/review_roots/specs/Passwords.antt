@@ -13,7 +13,8 @@ use Rattle.review_grants.specs.declared.marks.Marks.{Marks}
 use Rattle.review_grants.specs.Depends.{is_unmarked, marks_at, unmarked}
 use Rattle.review_grants.specs.Unnoted.{FailsByNotes}
 use Rattle.review_roots.specs.declared.level.Level.TheVariants as level
-use Rattle.review_roots.specs.Levels.{denies, level_of, marks_of, target_rows, verdict_where, with_command}
+use Rattle.review_roots.specs.Levels.{denies, level_of, marks_of}
+use Rattle.review_grants.specs.Targets.{target_rows, verdict_where, with_command}
 
 abbrev pub is_off : Option Bool → Bool
 is_off (Some false) = true

@@ -2,7 +2,8 @@
 ghost use Rattle.std.specs.Prelude.{◌≡◌, Some, slice_get};
 ghost use Rattle.sudo_grammar.specs.Tags.{pairs};
 ghost use Rattle.sudo_grammar.specs.declared.tag.TagPair.TheVariants.{Passwd};
-ghost use Rattle.review_roots.specs.Levels.{AllAllowsAll, NoneAllowsNone, VerdictIsWhere};
+ghost use Rattle.review_roots.specs.Levels.{AllAllowsAll, NoneAllowsNone};
+ghost use Rattle.review_grants.specs.Targets.{VerdictIsWhere};
 ghost use Rattle.review_roots.specs.Passwords.{AskedAlways, FreeIsAll, FreeIsUnasked, FreeNeedsNoPassword};
 ghost use Rattle.review_roots.specs.Chains.{ChainsArePaths};
 ghost use Rattle.review_roots.specs.KnownGroups.{OtherGroupsChangeNoList};

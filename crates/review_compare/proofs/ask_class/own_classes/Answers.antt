@@ -1,7 +1,7 @@
 use Rattle.std.proofs.Common.{List, arith, subst, sym}
 use Rattle.std.specs.List.{Contains}
 use Rattle.std.proofs.lemmas.List.{take_all}
-use Rattle.review_roots.proofs.ListSteps.{index-there}
+use Rattle.review_grants.proofs.ListSteps.{index-there}
 use Rattle.review_compare.specs.declared.cell.Ask.{Ask}
 use Rattle.review_compare.proofs.AskLemmas.{asks-more}
 use Rattle.review_compare.proofs.ask_class.own_classes.Goals as goal

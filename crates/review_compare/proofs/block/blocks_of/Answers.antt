@@ -6,7 +6,7 @@ use Rattle.sudo_verdict.specs.Body.Resolved.{body_resolves}
 use Rattle.sudo_verdict.proofs.RuleLists.{bodies_resolve}
 use Rattle.review_compare.specs.Blocks.{block_wides}
 use Rattle.review_compare.proofs.BlockLemmas.{entries-all, grants-more}
-use Rattle.review_roots.proofs.ListSteps.{all-there}
+use Rattle.review_grants.proofs.ListSteps.{all-there}
 use Rattle.review_compare.proofs.block.blocks_of.Goals as goal
 
 pub push_entry-requires : goal.push_entry-requires

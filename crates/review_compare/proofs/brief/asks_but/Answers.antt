@@ -1,7 +1,7 @@
 use Rattle.std.proofs.Common.{◌≡◌, [], Bool, true, false, List, arith, refl, subst, sym}
 use Rattle.std.specs.Prelude.{not}
 use Rattle.std.proofs.lemmas.List.{take_all}
-use Rattle.review_roots.proofs.ListSteps.{index-there}
+use Rattle.review_grants.proofs.ListSteps.{index-there}
 use Rattle.review_compare.specs.declared.cell.Ask.{Ask}
 use Rattle.review_compare.specs.Body.Brief.{AreBut}
 use Rattle.review_compare.proofs.BriefLemmas.{but-more, but-none}

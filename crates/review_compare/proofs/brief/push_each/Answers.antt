@@ -1,6 +1,6 @@
 use Rattle.std.proofs.Common.{List, arith, subst}
 use Rattle.std.proofs.lemmas.List.{take_all}
-use Rattle.review_roots.proofs.ListSteps.{index-there}
+use Rattle.review_grants.proofs.ListSteps.{index-there}
 use Rattle.review_compare.specs.declared.cell.Ask.{Ask}
 use Rattle.review_compare.specs.Body.AskClasses.{AddsAsks}
 use Rattle.review_compare.proofs.BriefLemmas.{asks-added, asks-none}

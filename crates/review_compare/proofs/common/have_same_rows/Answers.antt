@@ -2,7 +2,7 @@ use Rattle.std.proofs.Common.{◌∙◌, ap, append-nil, map, sym}
 use Rattle.review_compare.specs.Cells.{ruling_by}
 use Rattle.review_compare.specs.Body.Chosen.{deciders_at}
 use Rattle.review_compare.specs.Body.Shown.{ruling_of, shown}
-use Rattle.review_roots.proofs.ListSteps.{map-twice}
+use Rattle.review_grants.proofs.ListSteps.{map-twice}
 use Rattle.review_compare.proofs.common.have_same_rows.Goals as goal
 
 pub returns : goal.returns

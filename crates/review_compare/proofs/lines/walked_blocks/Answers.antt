@@ -1,6 +1,6 @@
 use Rattle.std.proofs.Common.{◌≡◌, ◌∙◌, ◌+◌, ◌++◌, List, ap, drop, flat_map, subst, sym, take}
 use Rattle.sudo_grammar.specs.declared.kind.Atom.{Atom}
-use Rattle.review_roots.proofs.ListSteps.{all-there, flat-one, take-more}
+use Rattle.review_grants.proofs.ListSteps.{all-there, flat-one, take-more}
 use Rattle.review_compare.specs.Blocks.{block_resolves, block_wides}
 use Rattle.review_compare.specs.Cells.{Wide, lined}
 use Rattle.review_compare.specs.Lines.{nowhere}

@@ -1,6 +1,6 @@
 use Rattle.std.proofs.Common.{◌≡◌, ◌∙◌, ◌++◌, ◌∷◌, ◌+◌, ◌-◌, [], ap, arith, sym, suc, ℕ, List}
 use Rattle.std.specs.List.{range_with_len}
-use Rattle.review_roots.proofs.ListSteps.{range-more}
+use Rattle.review_grants.proofs.ListSteps.{range-more}
 use Rattle.review_compare.proofs.near.middle.Goals as goal
 
 pub loop-index-preserved : goal.loop-index-preserved

@@ -2,7 +2,7 @@ use Rattle.std.proofs.Common.{◌≡◌, ◌∙◌, ◌++◌, ◌∷◌, ◌+◌
 use Rattle.std.specs.Prelude.{filter}
 use Rattle.std.specs.List.{range_with_len}
 use Rattle.std.proofs.lemmas.List.Elements.{filter-append}
-use Rattle.review_roots.proofs.ListSteps.{range-more}
+use Rattle.review_grants.proofs.ListSteps.{range-more}
 use Rattle.review_compare.specs.declared.ruling.Ruled.{Ruled}
 use Rattle.review_compare.specs.Body.Chosen.{deciders_at}
 use Rattle.review_compare.specs.Body.Near.{has_near}

@@ -2,7 +2,7 @@ use Rattle.std.proofs.Common.{◌∙◌, ◌++◌, List, ap, flat_map, option_co
 use Rattle.std.specs.Option.{option_or}
 use Rattle.sudo_grammar.specs.declared.tag.Tag.{Tag}
 use Rattle.sudo_verdict.specs.Tagged.{tags_named}
-use Rattle.review_roots.proofs.LoopLemmas.{copied-or}
+use Rattle.review_grants.proofs.ItemLemmas.{copied-or}
 use Rattle.review_grants.proofs.TagSteps.{runas_before-more, tags_before-more, tags_before-named}
 use Rattle.review_roots.proofs.blocks.in_force_at.Goals as goal
 

@@ -4,7 +4,7 @@ use Rattle.std.proofs.lemmas.List.{take_all}
 use Rattle.review_roots.specs.Blocks.{lists}
 use Rattle.review_roots.specs.Body.Raising.{block_raises, passes_at}
 use Rattle.review_roots.proofs.IndexLemmas.{filter-step, indices-filtered}
-use Rattle.review_roots.proofs.ListSteps.{index-there}
+use Rattle.review_grants.proofs.ListSteps.{index-there}
 use Rattle.review_roots.proofs.candidate.strong_of.Goals as goal
 
 pub loop-index-preserved : goal.loop-index-preserved

@@ -5,7 +5,8 @@ use Rattle.sudo_grammar.specs.declared.policy.Policy.{Policy}
 use Rattle.sudo_verdict.specs.Body.Resolved.{body_resolves}
 use Rattle.sudo_verdict.proofs.RuleLists.{bodies_resolve}
 use Rattle.review_roots.specs.KnownGroups.{body_users}
-use Rattle.review_roots.proofs.ListSteps.{all-there, flat-next}
+use Rattle.review_grants.proofs.ListSteps.{all-there}
+use Rattle.review_roots.proofs.ListSteps.{flat-next}
 use Rattle.review_roots.proofs.groups.rule_users.Goals as goal
 
 pub push_users-requires : goal.push_users-requires

@@ -5,7 +5,7 @@ use Rattle.sudo_policy.specs.Resolving.{resolves, runas_resolves}
 use Rattle.review_roots.specs.Blocks.{block_resolves, is_for}
 use Rattle.review_roots.specs.Body.Alike.{HaveAlike, host_list}
 use Rattle.review_roots.specs.Body.Raising.{passes}
-use Rattle.review_roots.proofs.ListSteps.{all-there, index-there}
+use Rattle.review_grants.proofs.ListSteps.{all-there, index-there}
 use Rattle.review_roots.proofs.LoopLemmas.{there}
 use Rattle.review_roots.proofs.SoleLemmas.{hosts-alike, like-at}
 use Rattle.review_roots.proofs.host.is_for_behind.Goals as goal

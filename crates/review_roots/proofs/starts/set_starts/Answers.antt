@@ -2,7 +2,7 @@ use Rattle.std.proofs.Common.{◌∙◌, ◌+◌, None, ap, arith, get_or, lengt
 use Rattle.review_roots.specs.declared.search.Found.{Found}
 use Rattle.review_roots.specs.Asked.{nothing}
 use Rattle.review_roots.specs.Body.Found.{AreStartsBefore}
-use Rattle.review_roots.proofs.ListSteps.{index-there}
+use Rattle.review_grants.proofs.ListSteps.{index-there}
 use Rattle.review_roots.proofs.StartsLemmas.{starts-all, starts-length, starts-next}
 use Rattle.review_roots.proofs.starts.set_starts.Goals as goal
 

@@ -7,7 +7,7 @@ use Rattle.sudo_policy.specs.Resolving.{resolves, runas_resolves}
 use Rattle.review_roots.specs.Blocks.{block_resolves}
 use Rattle.review_roots.specs.Body.Raising.{passes}
 use Rattle.review_roots.specs.Body.Towards.{asker_allowed}
-use Rattle.review_roots.proofs.ListSteps.{all-there}
+use Rattle.review_grants.proofs.ListSteps.{all-there}
 use Rattle.review_roots.proofs.steps.stands_at.Goals as goal
 
 pub allows_runas-requires : goal.allows_runas-requires

@@ -7,7 +7,7 @@ use Rattle.review_roots.specs.Blocks.{block_resolves}
 use Rattle.review_roots.specs.Body.Alike.{HaveAlikeRunas}
 use Rattle.review_roots.specs.Body.Raising.{passes}
 use Rattle.review_roots.specs.Body.Towards.{asker_allowed}
-use Rattle.review_roots.proofs.ListSteps.{all-there, index-there}
+use Rattle.review_grants.proofs.ListSteps.{all-there, index-there}
 use Rattle.review_roots.proofs.LoopLemmas.{there}
 use Rattle.review_roots.proofs.SoleLemmas.{like-at}
 use Rattle.review_roots.proofs.toward.allows_behind.Goals as goal

@@ -1,7 +1,7 @@
 use Rattle.std.proofs.Common.{false, get_or}
 use Rattle.std.specs.List.{slice_index_or}
 use Rattle.review_roots.proofs.IndexLemmas.{filter-step}
-use Rattle.review_roots.proofs.ListSteps.{index-there}
+use Rattle.review_grants.proofs.ListSteps.{index-there}
 use Rattle.review_roots.proofs.toward.strong_to.Goals as goal
 
 pub loop-index-preserved : goal.loop-index-preserved

@@ -3,7 +3,7 @@ use Rattle.std.proofs.lemmas.Bool.{and_parts}
 use Rattle.sudo_grammar.specs.declared.kind.Kind.TheVariants as kind
 use Rattle.sudo_policy.specs.Resolving.{resolves, runas_resolves}
 use Rattle.review_roots.specs.Blocks.{block_resolves}
-use Rattle.review_roots.proofs.ListSteps.{all-there}
+use Rattle.review_grants.proofs.ListSteps.{all-there}
 use Rattle.review_roots.proofs.unnamed.groups_of.Goals as goal
 
 pub push_runas_groups-requires : goal.push_runas_groups-requires

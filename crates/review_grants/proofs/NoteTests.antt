@@ -1,6 +1,6 @@
 -- Tests of grants that may fail by what is noted: they hold of rows for the target alone, of each that is ALL and has no note, and of
 -- none that stands for a note.
-use Rattle.std.proofs.Common.{◌≡◌, ◌∙◌, ℕ, Bool, true, false, not, cond, ◌&&◌, ◌||◌, List, [], ◌∷◌}
+use Rattle.std.proofs.Common.{◌≡◌, ◌∙◌, ℕ, Bool, true, false, not, cond, ◌&&◌, List, [], ◌∷◌}
 use Rattle.std.proofs.Common.{◌++◌, take, drop, ap, map, refl, sym, Some, None}
 use Rattle.std.specs.Prelude.{find, is_some}
 use Rattle.std.specs.Str.{bytes_eq}
@@ -25,9 +25,9 @@ use Rattle.review_texts.proofs.NoPath.{note_fits_nothing}
 use Rattle.review_grants.specs.declared.marks.Marks.{Marks}
 use Rattle.review_grants.specs.Depends.{is_note_grant, is_noted_at, is_unmarked, joined_marks, marks_at, notes_at, unmarked}
 use Rattle.review_grants.specs.Unnoted.{FailsByNotes}
-use Rattle.review_roots.specs.Levels.{with_command}
-use Rattle.review_roots.proofs.LevelSteps.{all_matches, runas_same}
-use Rattle.review_roots.proofs.MemberLemmas.{neither}
+use Rattle.review_grants.specs.Targets.{with_command}
+use Rattle.review_grants.proofs.ItemLemmas.{neither}
+use Rattle.review_grants.proofs.TargetLemmas.{all_matches, runas_same}
 
 -- ---- No command fits an atom that stands for a note
 
@@ -85,14 +85,6 @@ note-unfit _ c x e = cc
 pub note-not-all : (a : Atom) → is_some (note_in a) ≡ true → is_all a ≡ false
 note-not-all (atom.Command path None) e = refl
 note-not-all _ e = cc
-
-pub or-false : (n : Bool) → (n || false) ≡ n
-or-false true = refl
-or-false false = refl
-
-pub or-true : (n : Bool) → (n || true) ≡ true
-or-true true = refl
-or-true false = refl
 
 -- ---- Marks
 
