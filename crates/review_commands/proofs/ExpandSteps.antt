@@ -15,8 +15,7 @@ use Rattle.sudo_load.specs.declared.supply.Supply.{Supply}
 use Rattle.sudo_policy.specs.Checking.{Passes}
 use Rattle.review_commands.specs.Body.Expanding.{IsNotShownOf}
 use Rattle.review_commands.specs.Body.Reviewing.{IsNoticeOn}
-use Rattle.review_commands.specs.Body.Surveying.{IsNotedTable}
-use Rattle.review_commands.specs.Endings.{EndsNoted, Printing}
+use Rattle.review_commands.specs.Endings.{EndsNoted, IsNotedTable, Printing}
 use Rattle.review_commands.specs.Expanding.{AreShownLines, IsShown}
 use Rattle.review_commands.specs.FileTexts.{texts_of}
 use Rattle.review_commands.specs.declared.ending.NotedOutput.{NotedOutput}

@@ -10,7 +10,3 @@ pub mod TableSteps
 pub mod WrittenSteps
 pub mod RootSteps
 pub mod PairSteps
-pub mod QuietSteps
-pub mod ChangeSteps
-pub mod NotedSteps
-pub mod RecordSteps

@@ -5,8 +5,9 @@ use Rattle.std.specs.declared.alloc.AllocError.{AllocError}
 use Rattle.sudo_grammar.specs.declared.policy.Policy.{Policy}
 use Rattle.sudo_match.specs.KnownRows.{KnownRows}
 use Rattle.run_base.specs.declared.run_output.RunOutput.{RunOutput}
-use Rattle.review_commands.specs.Body.Surveying.{IsMemory, IsNotedTable, IsNotInScope}
-use Rattle.review_commands.specs.Surveying.{Inputs, IsNotGranted, IsNotSurveyed, IsSurveyed, IsTabled, Table}
+use Rattle.review_commands.specs.Endings.{IsNotedTable}
+use Rattle.review_commands.specs.Body.Surveying.{IsMemory}
+use Rattle.review_commands.specs.Surveying.{Inputs, IsNotGranted, IsNotInScope, IsNotSurveyed, IsSurveyed, IsTabled, Table}
 use Rattle.review_commands.specs.declared.ending.NotedOutput.{NotedOutput}
 use Rattle.review_commands.specs.declared.fault.TableFault.{TableFault}
 use Rattle.review_commands.specs.declared.fault.TableFault.TheVariants as tables

@@ -1,7 +1,6 @@
 pub mod Reviewing
 pub mod Surveying
 pub mod Expanding
-pub mod Comparing
+pub mod Pairing
 pub mod Knowing
 pub mod Paths
-pub mod Changing

@@ -2,6 +2,7 @@
 use Rattle.std.specs.Prelude.{◌≡◌, ◌⊎◌, ◌+◌, ℕ, List, Result, Ok}
 use Rattle.run_base.specs.Endings.{EndsInFault, FailsToWrite, HasWritten, IsWell, Notices, PrintsOrNoMemory, WriterStates}
 use Rattle.run_base.specs.FaultLines.{memory_line, write_line}
+use Rattle.run_base.specs.declared.run_output.RunOutput.{RunOutput}
 use Rattle.review_grants.specs.Writing.{IsStopped, failures_at}
 use Rattle.review_grants.specs.declared.writing.Stopped.{Stopped}
 use Rattle.review_grants.specs.declared.writing.Stopped.TheVariants as stops
@@ -59,3 +60,11 @@ AreNoted noted text notice status =
 -- the result of a run, before it is printed, is this text with this notice and this status
 abbrev pub IsNoted : {F : Type 0} → Result NotedOutput F → Printing
 IsNoted ended text notice status = (noted : NotedOutput) × (ended ≡ Ok noted) × AreNoted noted text notice status
+
+-- this is a table, printed with a notice
+pub record IsNotedTable {F : Type 0} (table : Result RunOutput F) (notice : List ℕ) (p : NotedOutput) : Type 0 where
+  pub output : RunOutput
+  pub is_output : table ≡ Ok output
+  pub text_is : p.text.items ≡ output.text.items
+  pub status_is : p.status ≡ output.status
+  pub notice_is : p.notice.items ≡ notice

@@ -8,8 +8,6 @@ pub mod RootRows
 pub mod Reviewing
 pub mod Surveying
 pub mod Expanding
-pub mod Comparing
-pub mod Changes
-pub mod ChangeLaws
+pub mod Pairing
 pub mod Words
 pub mod Body

@@ -138,3 +138,12 @@ table_explained program tables.Memory = table_printed program tables.Memory
 
 abbrev pub table_notices : Notices TableFault
 table_notices = notices table_status table_explained program_name
+
+-- why names are not in scope: no known user or host has one, or memory failed
+abbrev pub IsNotInScope : KnownRows → Option (List ℕ) → Option (List ℕ) → TableFault → Type 0
+IsNotInScope d user host (tables.NoSuchUser name) = (user ≡ Some name) × (user_named d name ≡ None)
+IsNotInScope d user host (tables.NoSuchHost name) =
+    (host ≡ Some name) × (host_named d name ≡ None) × IsSome (looked_up (user_named d) user)
+IsNotInScope d user host tables.Memory = ⊤
+IsNotInScope d user host (tables.Policy fault) = ⊥
+IsNotInScope d user host (tables.Directory fault) = ⊥

@@ -9,16 +9,16 @@ use std::alloc::Global;
 
 /// The text that a run prints on the output, the notice that it then prints on the error output, and its exit status.
 #[derive(Drop)]
-pub(crate) struct NotedOutput {
-    pub(crate) text: Vec<u8>,
-    pub(crate) notice: Vec<u8>,
-    pub(crate) status: u8,
+pub struct NotedOutput {
+    pub text: Vec<u8>,
+    pub notice: Vec<u8>,
+    pub status: u8,
 }
 
 /// Ends a run of the program of this name: prints its text on `out` and then its notice on `err`, and returns its status; or
 /// prints the fault on `err`, with the reason why a path cannot be read, and returns the fault's status. A write on `out` that
 /// fails is a fault; one on `err` is ignored.
-pub(crate) fn end_noted<F: Fails, O: Sink, E: Sink>(
+pub fn end_noted<F: Fails, O: Sink, E: Sink>(
     alloc: Global,
     program: &[u8],
     ended: Result<NotedOutput, F>,

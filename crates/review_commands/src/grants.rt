@@ -5,8 +5,8 @@ ghost use Rattle.sudo_match.specs.KnownRows.{host_named, user_named};
 ghost use Rattle.sudo_verdict.specs.Questions.{looked_up};
 ghost use Rattle.review_commands.specs.CautionLines.{program_name};
 ghost use Rattle.review_commands.specs.Endings.{EndsAsWritten, stop_line};
-ghost use Rattle.review_commands.specs.Body.Surveying.{AreNamedGrants, AreScopedGrants, IsNotInScope, IsNothing};
-ghost use Rattle.review_commands.specs.Surveying.{AreGrants, Inputs, inputs_by, IsNotGranted, IsTabled};
+ghost use Rattle.review_commands.specs.Body.Surveying.{AreNamedGrants, AreScopedGrants, IsNothing};
+ghost use Rattle.review_commands.specs.Surveying.{AreGrants, Inputs, IsNotGranted, IsNotInScope, IsTabled, inputs_by};
 ghost use Rattle.review_commands.specs.Surveying.{table_notices};
 
 use crate::fault::TableFault;
@@ -29,7 +29,7 @@ pub struct ScopeNames<'a> {
 
 /// Returns the known user and host of these names, where one is given. Returns `NoSuchUser` or `NoSuchHost` with a name that
 /// no known one has, that of the user first, and `Memory` if allocation failed.
-pub(crate) fn scope_of<'a>(
+pub fn scope_of<'a>(
     alloc: Global,
     directory: &'a Directory,
     names: ScopeNames<'_>,

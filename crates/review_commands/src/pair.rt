@@ -3,10 +3,10 @@ ghost use Rattle.std.specs.Prelude.{◌≡◌, Err, IfErr, IfOk};
 ghost use Rattle.run_base.specs.Loading.{IsLoadedFrom};
 ghost use Rattle.sudo_policy.specs.Checking.{Passes};
 ghost use Rattle.audit_commands.specs.Auditing.{IsDirectory};
-ghost use Rattle.review_commands.specs.Body.Comparing.{ArePathNotices, IsNotPassing, IsPathNotice};
+ghost use Rattle.review_commands.specs.Body.Pairing.{ArePathNotices, IsNotPassing, IsPathNotice};
 ghost use Rattle.review_commands.specs.Body.Knowing.{IsNotKnown};
-ghost use Rattle.review_commands.specs.Body.Surveying.{IsNotedTable};
-ghost use Rattle.review_commands.specs.Comparing.{IsNotPaired, IsPaired, PairInputs, pair_by};
+ghost use Rattle.review_commands.specs.Endings.{IsNotedTable};
+ghost use Rattle.review_commands.specs.Pairing.{IsNotPaired, IsPaired, PairInputs, pair_by};
 ghost use Rattle.review_commands.specs.FileTexts.{texts_of};
 
 use crate::cautions::found_in;
@@ -22,11 +22,11 @@ use sudo_match::Directory;
 
 /// Two policies that pass the check, the known users and hosts, and the lines of the cautions on each policy.
 #[derive(Drop)]
-pub(crate) struct Pair {
-    pub(crate) old: CheckedFiles,
-    pub(crate) new: CheckedFiles,
-    pub(crate) directory: Directory,
-    pub(crate) notice: Vec<u8>,
+pub struct Pair {
+    pub old: CheckedFiles,
+    pub new: CheckedFiles,
+    pub directory: Directory,
+    pub notice: Vec<u8>,
 }
 
 // Returns the policy of a file, if it passes the check. Returns `Policy` if it is refused or has errors, and `Memory` if
@@ -95,7 +95,7 @@ fn pair_notice(
 ///
 /// Returns `Policy` if the old policy is refused or has errors, and otherwise if the new one is or has; `Directory` if the users,
 /// the hosts or both together are refused; and `Memory` if allocation failed.
-pub(crate) fn read_pair<F: Files, G: Files, U: Feed, H: Feed>(
+pub fn read_pair<F: Files, G: Files, U: Feed, H: Feed>(
     alloc: Global,
     old_path: &[u8],
     old_files: &mut F,
@@ -137,7 +137,7 @@ pub(crate) fn read_pair<F: Files, G: Files, U: Feed, H: Feed>(
 
 /// Returns a table with the notice that is printed behind it, or the fault in place of the table. Forgets the policies: the run
 /// ends here.
-pub(crate) fn noted_pair<F>(pair: Pair, table: Result<RunOutput, F>) -> Result<NotedOutput, F>
+pub fn noted_pair<F>(pair: Pair, table: Result<RunOutput, F>) -> Result<NotedOutput, F>
     ensures noted { IfOk result (λ p. IsNotedTable table pair.notice.items p) }
     ensures fault { IfErr result (λ fault. table ≡ Err fault) }
 {

@@ -13,7 +13,7 @@ use sudo_text::Seq;
 
 /// The files of this machine, or those below a folder of it.
 #[derive(Drop)]
-pub(crate) enum PolicyFiles<'a> {
+pub enum PolicyFiles<'a> {
     Machine(Disk<'a>),
     Below(Rooted<HostTree<'a>>),
 }
@@ -56,7 +56,7 @@ fn files_below<'a>(
 }
 
 /// The files of a policy, with their masked texts.
-pub(crate) type MaskedFiles<'a> = Masked<PolicyFiles<'a>>;
+pub type MaskedFiles<'a> = Masked<PolicyFiles<'a>>;
 
 // Returns the files of this machine, or those below a folder of it, with their masked texts.
 fn masked_files<'a>(
@@ -87,8 +87,9 @@ pub(crate) fn policy_files<'a>(
     masked_files(rt, policy.root, policy.netgroups, host)
 }
 
-/// Returns the files of this machine twice, for two policies that are compared. Returns the faults of `policy_files`.
-pub(crate) fn pair_files<'a>(
+/// Returns the files of this machine twice, with their masked texts, for two policies that are compared. Returns why the file of netgroups
+/// says nothing, if it does not, and `Unopened` with `Memory` if allocation failed.
+pub fn pair_files<'a>(
     rt: &'a HostRuntime,
     netgroups: Option<&str>,
     host: Option<&str>,

@@ -1,4 +1,4 @@
 //! The name of the program.
 
 /// The name of the program, as its lines on the error output begin.
-pub(crate) const PROGRAM: &[u8] = b"sudo_review";
+pub const PROGRAM: &[u8] = b"sudo_review";

@@ -26,9 +26,9 @@ fn asked_bytes(target: &Option<Seq<u8>>) -> &[u8]
     }
 }
 
-/// Appends the number of a request, its user and its host, each after a comma.
+/// Appends the number of a request, its user and its host, each after a comma. Returns `AllocError` if allocation failed.
 #[tactic(auto, unfolding(csv::specs::Writing::fields_text))]
-pub(crate) fn push_asker(text: &mut Vec<u8>, request: &Request) -> Result<(), AllocError>
+pub fn push_asker(text: &mut Vec<u8>, request: &Request) -> Result<(), AllocError>
     ensures { OnOk result (text.new.items
         ≡ text.old.items ++ fields_text default_writer (asker_fields request.now)) }
 {
@@ -38,9 +38,10 @@ pub(crate) fn push_asker(text: &mut Vec<u8>, request: &Request) -> Result<(), Al
     push_next_field(text, request.host.as_slice())
 }
 
-/// Appends what a request asks for, each field after a comma: a target, a group, a command and its arguments.
+/// Appends what a request asks for, each field after a comma: a target, a group, a command and its arguments. Returns `AllocError` if
+/// allocation failed.
 #[tactic(auto, unfolding(csv::specs::Writing::fields_text))]
-pub(crate) fn push_asked(text: &mut Vec<u8>, request: &Request) -> Result<(), AllocError>
+pub fn push_asked(text: &mut Vec<u8>, request: &Request) -> Result<(), AllocError>
     ensures { OnOk result (text.new.items
         ≡ text.old.items ++ fields_text default_writer (asked_fields request.now)) }
 {

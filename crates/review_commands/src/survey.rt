@@ -1,7 +1,8 @@
 //! The common input of the tables of a policy: the policy, the known users and hosts, and the cautions.
 ghost use Rattle.std.specs.Prelude.{◌≡◌, Ok, Err, IfErr, IfOk};
-ghost use Rattle.review_commands.specs.Body.Surveying.{IsMemory, IsNotedTable};
+ghost use Rattle.review_commands.specs.Body.Surveying.{IsMemory};
 ghost use Rattle.review_commands.specs.Surveying.{Inputs, inputs_by, IsNotSurveyed, IsSurveyed};
+ghost use Rattle.review_commands.specs.Endings.{IsNotedTable};
 
 use crate::ending::NotedOutput;
 use crate::fault::TableFault;

@@ -3,8 +3,8 @@ ghost use Rattle.std.specs.Prelude.{None};
 ghost use Rattle.run_base.specs.Endings.{writer_states as sent};
 ghost use Rattle.review_grants.specs.WhoRows.{sought_by};
 ghost use Rattle.review_commands.specs.Endings.{EndsAsWritten};
-ghost use Rattle.review_commands.specs.Body.Surveying.{IsNotInScope, IsNothing, IsWhoFound, IsWhoKnown};
-ghost use Rattle.review_commands.specs.Surveying.{Inputs, inputs_by, IsNotGranted, IsTabled, IsWho};
+ghost use Rattle.review_commands.specs.Surveying.{Inputs, IsNotGranted, IsNotInScope, IsTabled, IsWho, inputs_by};
+ghost use Rattle.review_commands.specs.Body.Surveying.{IsNothing, IsWhoFound, IsWhoKnown};
 ghost use Rattle.review_commands.specs.Surveying.{table_notices};
 
 use crate::grants::{ScopeNames, report_stop, scope_of};

@@ -1,8 +1,8 @@
 //! The program: a reviewer of sudoers policies.
 #![tactic(auto)]
 
-use review_commands::run_program;
 pub use review_commands::{Asked, asked, cautions_run, report_into};
+use review_program::run_program;
 use std::process::ExitCode;
 
 fn main(rt: HostRuntime) -> ExitCode {

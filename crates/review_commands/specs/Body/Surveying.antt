@@ -1,27 +1,14 @@
 -- The names that a table is about. Only proofs of bodies use these.
-use Rattle.std.specs.Prelude.{◌≡◌, ⊤, ℕ, IsSome, List, Option, None, Some, Result, Ok}
-use Rattle.sudo_match.specs.KnownRows.{KnownRows, host_named, user_named}
+use Rattle.std.specs.Prelude.{◌≡◌, ℕ, List, Option}
 use Rattle.sudo_match.specs.declared.people.Machine.{Machine}
 use Rattle.sudo_match.specs.declared.people.Person.{Person}
-use Rattle.sudo_verdict.specs.Questions.{looked_up}
 use Rattle.review_grants.specs.GrantRows.{grants_text}
 use Rattle.review_commands.specs.Endings.{Printing}
 use Rattle.review_grants.specs.WhoRows.{Sought, who_text}
 use Rattle.review_commands.specs.Surveying.{AreGrants, IsWho}
 use Rattle.review_commands.specs.declared.survey.Survey.{Survey}
-use Rattle.run_base.specs.declared.run_output.RunOutput.{RunOutput}
-use Rattle.review_commands.specs.declared.ending.NotedOutput.{NotedOutput}
 use Rattle.review_commands.specs.declared.fault.TableFault.{TableFault}
 use Rattle.review_commands.specs.declared.fault.TableFault.TheVariants as tables
-
--- why names are not in scope: no known user or host has one, or memory failed
-abbrev pub IsNotInScope : KnownRows → Option (List ℕ) → Option (List ℕ) → TableFault → Type 0
-IsNotInScope d user host (tables.NoSuchUser name) = (user ≡ Some name) × (user_named d name ≡ None)
-IsNotInScope d user host (tables.NoSuchHost name) =
-    (host ≡ Some name) × (host_named d name ≡ None) × IsSome (looked_up (user_named d) user)
-IsNotInScope d user host tables.Memory = ⊤
-IsNotInScope d user host (tables.Policy fault) = ⊥
-IsNotInScope d user host (tables.Directory fault) = ⊥
 
 abbrev pub IsNothing : TableFault → Type 0
 IsNothing fault = ⊥
@@ -48,11 +35,3 @@ IsWhoKnown s sought text notice status =
 
 abbrev pub IsMemory : TableFault → Type 0
 IsMemory fault = fault ≡ tables.Memory
-
--- this is a table, printed with a notice
-pub record IsNotedTable {F : Type 0} (table : Result RunOutput F) (notice : List ℕ) (p : NotedOutput) : Type 0 where
-  pub output : RunOutput
-  pub is_output : table ≡ Ok output
-  pub text_is : p.text.items ≡ output.text.items
-  pub status_is : p.status ≡ output.status
-  pub notice_is : p.notice.items ≡ notice

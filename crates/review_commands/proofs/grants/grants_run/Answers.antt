@@ -1,7 +1,7 @@
 use Rattle.std.proofs.Common.{option_copied, refl, subst, sym}
 use Rattle.run_base.specs.Endings.{writer_states as sent}
-use Rattle.review_commands.specs.Body.Surveying.{AreNamedGrants, IsNotInScope}
-use Rattle.review_commands.specs.Surveying.{AreGrants, Inputs, inputs_by, IsNotGranted, IsSurveyed, IsTabled, table_notices}
+use Rattle.review_commands.specs.Body.Surveying.{AreNamedGrants}
+use Rattle.review_commands.specs.Surveying.{AreGrants, Inputs, inputs_by, IsNotGranted, IsNotInScope, IsSurveyed, IsTabled, table_notices}
 use Rattle.review_commands.proofs.TableSteps.{fault-of, not-granted}
 use Rattle.review_commands.proofs.WrittenSteps.{ends-mapped, ends-refused}
 use Rattle.review_commands.proofs.grants.grants_run.Goals as goal

@@ -1,7 +1,7 @@
 use Rattle.std.proofs.Common.{option_copied, refl}
 use Rattle.run_base.specs.Endings.{writer_states as sent}
-use Rattle.review_commands.specs.Body.Surveying.{AreNamedGrants, AreScopedGrants, IsNotInScope, IsNothing}
-use Rattle.review_commands.specs.Surveying.{table_notices}
+use Rattle.review_commands.specs.Body.Surveying.{AreNamedGrants, AreScopedGrants, IsNothing}
+use Rattle.review_commands.specs.Surveying.{IsNotInScope, table_notices}
 use Rattle.review_commands.proofs.WrittenSteps.{ends-mapped, ends-refused}
 use Rattle.review_commands.proofs.grants.write_named.Goals as goal
 

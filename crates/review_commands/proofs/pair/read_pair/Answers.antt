@@ -1,4 +1,4 @@
-use Rattle.review_commands.specs.Comparing.{PairInputs, pair_by}
+use Rattle.review_commands.specs.Pairing.{PairInputs, pair_by}
 use Rattle.review_commands.proofs.PairSteps.{not-known, not-new}
 use Rattle.review_commands.proofs.ReportSteps.{checked_of}
 use Rattle.review_commands.proofs.pair.read_pair.Goals as goal

@@ -1,8 +1,8 @@
 use Rattle.std.proofs.Common.{None, refl, subst, sym}
 use Rattle.run_base.specs.Endings.{writer_states as sent}
 use Rattle.review_grants.specs.WhoRows.{sought_by}
-use Rattle.review_commands.specs.Body.Surveying.{IsNotInScope, IsWhoKnown}
-use Rattle.review_commands.specs.Surveying.{Inputs, inputs_by, IsNotGranted, IsSurveyed, IsTabled, IsWho, table_notices}
+use Rattle.review_commands.specs.Body.Surveying.{IsWhoKnown}
+use Rattle.review_commands.specs.Surveying.{Inputs, inputs_by, IsNotGranted, IsNotInScope, IsSurveyed, IsTabled, IsWho, table_notices}
 use Rattle.review_commands.proofs.TableSteps.{fault-of, not-granted}
 use Rattle.review_commands.proofs.WrittenSteps.{ends-mapped, ends-refused}
 use Rattle.review_commands.proofs.who.who_run.Goals as goal

@@ -5,8 +5,8 @@ use Rattle.sudo_match.specs.KnownRows.{user_named}
 use Rattle.sudo_match.specs.declared.people.Person.{Person}
 use Rattle.sudo_verdict.specs.Questions.{looked_up}
 use Rattle.review_grants.specs.WhoRows.{sought_by}
-use Rattle.review_commands.specs.Body.Surveying.{IsNotInScope, IsNothing, IsWhoFound, IsWhoKnown}
-use Rattle.review_commands.specs.Surveying.{table_notices}
+use Rattle.review_commands.specs.Surveying.{IsNotInScope, table_notices}
+use Rattle.review_commands.specs.Body.Surveying.{IsNothing, IsWhoFound, IsWhoKnown}
 use Rattle.review_commands.proofs.WrittenSteps.{ends-mapped, ends-refused}
 use Rattle.review_commands.proofs.who.write_known.Goals as goal
 

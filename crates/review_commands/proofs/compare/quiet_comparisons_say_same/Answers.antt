@@ -1,5 +1,0 @@
-use Rattle.review_commands.proofs.QuietSteps.{quiet-says-same}
-use Rattle.review_commands.proofs.compare.quiet_comparisons_say_same.Goals as goal
-
-pub returns : goal.returns
-returns c = quiet-says-same

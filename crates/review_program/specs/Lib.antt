@@ -1,0 +1,4 @@
+pub mod Comparing
+pub mod Changes
+pub mod ChangeLaws
+pub mod Body
