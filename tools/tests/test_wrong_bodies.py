@@ -28,7 +28,7 @@ WITHOUT = {
     ("sudo_policy", "lists_are_written"),
     ("audit_commands", "run_program"),
 }
-# What `review_commands` exports for `review_program` alone: the wrong bodies of both turn what these do.
+# Parts of functions of `review_program`: `review_commands` exports them for it alone.
 FOR_ONE_CRATE = ("end_noted", "hinted", "noted_pair", "opened_files", "push_asked", "push_asker", "refused", "scope_of")
 WITHOUT.update(("review_commands", name) for name in FOR_ONE_CRATE)
 # The stub refuses a body with the word WRONG, one with SLY only in a check of the whole crate, and cannot read one with BROKEN.
