@@ -15,7 +15,9 @@ _QUOTED_PATH = re.compile(rb'"((?:[^"\\]|\\.)*)"', re.DOTALL)
 _BARE_PATH = re.compile(rb'(?:[^ \t"\\]|\\.)*', re.DOTALL)
 # What a path has in place of other text: an escape, or the mark of the host's name.
 _ESCAPED = re.compile(rb"\\(.)|%h", re.DOTALL)
-_KEPT = re.compile(rb'(\\.)|([ \t"])', re.DOTALL)
+# What is written otherwise without quotes: digits of a byte, but for those that end a text or a line, and blanks.
+_IN_QUOTES = re.compile(rb"\\x([0-9a-fA-F]{2})(?<!00)(?<!0[aAdD])|(\\.)|([ \t])", re.DOTALL)
+_TO_ESCAPE = b' \t"\\%h'
 _KEYWORD = re.compile(rb"(User|Runas|Host|Cmnd|Cmd)_Alias(?![^ \t!=,:()#\"])")
 _DEFAULTS = re.compile(rb"Defaults(?![^ \t@:!>])")
 
@@ -34,7 +36,7 @@ class Line(NamedTuple):
 
 
 class Include(NamedTuple):
-    """An include line: its place, whether it names a folder, and the path as it is meant and as it is written."""
+    """An include line: its place, whether it names a folder, and the path as it is meant and as it is written without quotes."""
 
     line: Line
     of_folder: bool
@@ -64,18 +66,22 @@ def include_of(line: Line, hostname: str = "") -> Include | None:
     rest = match[2] or b""
     quoted = _QUOTED_PATH.match(rest)
     bare = _BARE_PATH.match(rest)
-    written = quoted[1] if quoted else bare[0] if bare else b""
+    written = _IN_QUOTES.sub(_unquoted, quoted[1]) if quoted else bare[0] if bare else b""
     short = os.fsencode(short_name(hostname))
     path = _ESCAPED.sub(lambda found: found[1] or short or found[0], written)
     return Include(line, bool(match[1]), path, written)
 
 
+def _unquoted(found: re.Match[bytes]) -> bytes:
+    """Returns what stands between quotes as it is written without them."""
+    byte = bytes.fromhex(found[1].decode()) if found[1] else found[3]
+    return found[2] or (b"\\" + byte if found[3] or byte in _TO_ESCAPE else byte)
+
+
 def written_include(include: Include, root: bytes) -> bytes:
     """Returns an include line whose path is below a root folder. The mark of the host's name stays one."""
     escaped = re.sub(rb'([ \t"\\]|%(?=h))', rb"\\\1", root)
-    # Between quotes, which are left out, blanks stand for themselves.
-    kept = _KEPT.sub(lambda found: found[1] or b"\\" + found[2], include.written)
-    return (b"@includedir " if include.of_folder else b"@include ") + escaped + kept
+    return (b"@includedir " if include.of_folder else b"@include ") + escaped + include.written
 
 
 def beside(file: bytes, path: bytes) -> bytes:

@@ -2,6 +2,8 @@
 
 import json
 import os
+import random
+import subprocess
 import unittest
 
 from fleet_case import FleetCase, requests
@@ -9,11 +11,13 @@ from recorded import faults_of
 from support import PROGRAM, REQUESTS_HEADER, REVIEW, Case, needs_jinja, needs_program, needs_review, needs_schema
 from test_fleet_roots import FleetRoots
 from test_handed_netgroups import NOTING
-from test_hostname import BAD_NAMES, NAMES
+from test_hostname import BAD_NAMES, DIRECTIVES, NAMES, PIECES
 
 from kulavemia.hostname import is_name, of_this_machine, short_name
 from kulavemia.netgroups import named_in
+from kulavemia.policy import include_of, lines_of, rewritten
 
+LINES = 200
 REFUSED = "sudo_review: hint: %h is not read: the hosts file has db1, which is not web1"
 
 
@@ -23,18 +27,40 @@ class Names(Case):
         self.write("p", "")
         further = ("web1.", "web1..", "-x", "_", "a.-b", "x" * 255, "x" * 254 + ".", "x" * 255 + ".", "web1\n", "\udcff")
         for name in (*NAMES, *BAD_NAMES, *further):
-            status = self.status_of(f"--hostname={name}")
-            self.assertEqual((is_name(name), status), (status == 0, status if status == 0 else 2), name)
+            self.assertEqual(self.status_of(f"--hostname={name}"), 0 if is_name(name) else 2, name)
+
+    def test_the_program_reads_the_same_paths(self) -> None:
+        read = 0
+        for number in range(LINES):
+            draw = random.Random(f"handed.{number}")
+            path = draw.choice((("gone.", "%h"), ("/gone/%h",), ('"', "/gone/%h", '"'), ('"', "gone%h", '"')))
+            parts = [draw.choice(DIRECTIVES[:2]), " ", *path]
+            for _ in range(draw.randint(0, 2)):
+                parts.insert(draw.randrange(len(parts) + 1), draw.choice(PIECES))
+            text = "".join(parts).encode() + b"\n"
+            missing = self.missing_by(text)
+            if not missing:
+                continue
+            read += 1
+            root = b"/%h/r h" if missing.startswith(b"/") else b""
+            with self.subTest(text=text):
+                found = include_of(next(lines_of(text)), "web1.example.org")
+                assert found is not None
+                self.assertEqual((found.path, self.missing_by(rewritten(text, b"/%h/r h"))), (missing, root + missing))
+        self.assertGreater(read, LINES // 3)
+
+    def missing_by(self, text: bytes) -> bytes:
+        """Returns the path of which the program says that it is missing, empty if it says something else."""
+        self.write("p", text)
+        words = [REVIEW, "check", "p", "--hostname=web1.example.org"]
+        said = subprocess.run(words, cwd=self.folder, capture_output=True, check=False).stderr
+        before, _, path = said.partition(b" missing ")
+        return path.removesuffix(b"\n") if before == b"sudo_review: p:1:" else b""
 
     def status_of(self, word: str) -> int:
         """Returns the status of a check with a word."""
-        for status in (0, 2):
-            try:
-                self.run_tool(os.path.basename(REVIEW), "check", "p", word, status=status, folder=os.path.dirname(REVIEW))
-            except AssertionError:
-                continue
-            return status
-        return -1
+        words = [REVIEW, "check", "p", word]
+        return subprocess.run(words, cwd=self.folder, capture_output=True, check=False).returncode
 
 
 class HostnameCase(Case):
@@ -111,6 +137,9 @@ class Lint(HostnameCase):
         self.assertIn("p/sudoers:1: error: @include rules.db1 leads out", shown)
         self.assertIn("p/sudoers: not checked\n", shown)
         self.assertIn("TOKEN", self.lint("p/sudoers", "--hostname", "db1", "--follow", status=1))
+        self.write("p/sudoers", '@include "\\x2e./secret"\n')
+        self.assertIn("@include ../secret leads out", self.lint("p/sudoers", status=4))
+        self.write("p/sudoers", "@include rules.%h\n@includedir %h/%h\n")
         self.write("p/rules.web1", "")
         os.symlink("..", self.path("p", "web1"))
         self.assertIn("@includedir web1/web1 leads out", self.lint("p/sudoers", "--hostname", "web1", status=4))

@@ -56,6 +56,9 @@ class Lines(Case):
             (b"#includedir\t/etc/d  # note", True, b"/etc/d"),
             (b'@include "a \\"b"', False, b'a "b'),
             (b"@include a\\ b", False, b"a b"),
+            (b"@include a\\x62", False, b"ax62"),
+            (b'@include "\\x2fa\\x62\\x2E\\x20\\x5c c"', False, b"/ab. \\ c"),
+            (b'@include "a\\x00\\x0a\\x09\\xc3\\xA4\\x6"', False, b"ax00x0a\t\xc3\xa4x6"),
         ):
             found = include_of(next(lines_of(text)))
             assert found is not None
@@ -72,6 +75,7 @@ class Lines(Case):
             (rb'@includedir "/a b/%h\"" # c', b'/a b/web1"'),
             (rb"@include /a\%h%\h%H\\%h%%h", rb"/a%h%h%H\web1%web1"),
             (rb"@include /\%h", b"/%h"),
+            (rb'@include "/\x25h%\x68\x25\x68\x61.%h"', b"/%h%h%ha.web1"),
         ):
             line = next(lines_of(rewritten(text, b"/%h/r h")))
             for written, before in ((next(lines_of(text)), b""), (line, b"/%h/r h")):
