@@ -14,6 +14,7 @@ from typing import Any, NamedTuple
 
 from kulavemia import foreign, limits, netgroups, outputs
 from kulavemia.command import Fault, line_of, warn
+from kulavemia.hostname import NO_NAME, is_name
 from kulavemia.netgroups import Triple
 from kulavemia.rows import as_text, header_of, records, write_rows
 from kulavemia.unknown import folded
@@ -198,7 +199,7 @@ def each(source: str) -> Iterator[Host | Fault]:
     names: dict[str, str] = {}
     for place in places:
         with contextlib.suppress(Fault, OSError):
-            names[place.name] = _host_name(*place)
+            names[place.name] = host_name(*place)
     faults = _clashes_of_names(source, names)
     for place in places:
         try:
@@ -264,7 +265,7 @@ def _host(folder: str, below: str, name: str) -> Host:
         for fields in _lines(os.path.join(folder, "passwd"), below, 7, slice(2, 4))
     )
     people = [groups.person(account) for account in _unique(found, folder)]
-    machine = Machine(_host_name(folder, below, name), _copied_addresses(folder, below))
+    machine = Machine(host_name(folder, below, name), _copied_addresses(folder, below))
     return Host(name, people, machine, netgroups.collected(folder, below))
 
 
@@ -287,7 +288,8 @@ def _is_id(text: str) -> bool:
     return text.isascii() and text.isdecimal() and len(text) < 20 and int(text) < _ID_LIMIT
 
 
-def _host_name(folder: str, below: str, name: str) -> str:
+def host_name(folder: str, below: str, name: str) -> str:
+    """Returns the name of a host by its file `hostname`, or that of its folder where it has none."""
     path = os.path.join(folder, "hostname")
     if not foreign.exists(path, below):
         return name
@@ -295,6 +297,14 @@ def _host_name(folder: str, below: str, name: str) -> str:
     if not written:
         raise Fault(f"{path}:1: no name")
     return written
+
+
+def hostname_of(folder: str, below: str, name: str) -> str:
+    """Returns the name of a host as `host_name` does, for `%h` in its policy. Raises `Fault` at one that is no such name."""
+    found = host_name(folder, below, name)
+    if not is_name(found):
+        raise Fault(f"its policy has %h, and {found} {NO_NAME}")
+    return found
 
 
 def _copied_addresses(folder: str, below: str) -> tuple[str, ...]:

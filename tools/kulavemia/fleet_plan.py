@@ -10,12 +10,14 @@ from typing import NamedTuple
 
 from kulavemia import foreign, limits
 from kulavemia.command import Fault, line_of
+from kulavemia.directory import hostname_of
 from kulavemia.fleet_handed import CODE, PACKAGE, PROGRAM_FILE, Handed, packed
 from kulavemia.fleet_work import HOSTS, REQUESTS, ROOT, TREE, USERS, Job
+from kulavemia.hostname import words_of_hostname
 from kulavemia.netgroups import NETGROUPS
 from kulavemia.program import REVIEW, Judge
 from kulavemia.sums import digest_of
-from kulavemia.tree import POLICY, Tree, files_of_tree, main_of, read_tree
+from kulavemia.tree import POLICY, Tree, main_of, read_tree
 
 MAIN = "/etc/sudoers"
 SIZE_LIMIT = 64 << 20
@@ -59,13 +61,29 @@ class Given(NamedTuple):
 
 
 class ToReview(NamedTuple):
-    """What a review of a host reads: the main file of its policy, the policy, the users and hosts files, and any netgroups."""
+    """What a review of a host reads: the main file of its policy, the policy, the users and hosts files, and any netgroups.
+
+    The host's name is empty where its policy has no `%h`.
+    """
 
     main: str
     policy: Tree
     users: Given
     hosts: Given
     netgroups: Given | None
+    hostname: str
+
+
+class Read(NamedTuple):
+    """What an audit of a host reads beside requests: its policy's path, files of its own, and the names of what it shares.
+
+    The host's name is empty where its policy has no `%h`.
+    """
+
+    main: str
+    own: dict[str, bytes]
+    shared: list[str]
+    hostname: str
 
 
 def shard_name(host: str, number: int) -> str:
@@ -107,8 +125,11 @@ class Fleet:
             if self._exists(folder, name):
                 self.shared[name] = self._read(folder, name)
         self.shared_main = self._main_of(folder)
+        self.shared_names_host = False
         if self._exists(folder, TREE):
-            self.shared.update(self._tree(folder, self.shared_main))
+            tree = self._tree(folder, self.shared_main, ROOT)
+            self.shared.update(_by_names(tree))
+            self.shared_names_host = tree.names_host
 
     def handed(self) -> Handed:
         """Returns what every worker is handed."""
@@ -140,11 +161,12 @@ class Fleet:
         """Yields the shards of a host. Raises `Fault` or `OSError` where it has none."""
         shards = cut(self._requests(name), self.asked.senders)
         folder = os.path.join(self.folder, name)
-        main, policy, shared = self._policy(folder)
+        read = self._policy(name)
         for number, files in enumerate(shards, 1):
             _want_fit(files)
-            own = {**policy, **{file.file: self._read(folder, file.file) for file in files}}
-            yield self._job(shard_name(name, number), main, own, shared, [(file.sender, file.file) for file in files])
+            own = {**read.own, **{file.file: self._read(folder, file.file) for file in files}}
+            sources = [(file.sender, file.file) for file in files]
+            yield self._job(shard_name(name, number), read._replace(own=own), sources)
 
     def to_review(self, name: str, root: str) -> ToReview:
         """Returns what a review of a host reads, its policy's files as they read below a root folder.
@@ -156,8 +178,9 @@ class Fleet:
         place, main = (folder, self._main_of(folder)) if self._exists(folder, TREE) else (self.folder, self.shared_main)
         if not self._exists(place, TREE):
             raise Fault(f"there is no {TREE}")
-        policy = read_tree(os.path.join(place, TREE), main, os.fsencode(root), self.folder)
-        return ToReview(main, policy, self._given(name, USERS), self._given(name, HOSTS), self._found(name, NETGROUPS))
+        policy, hostname = self._tree_on(name, place, main, root)
+        users, hosts = self._given(name, USERS), self._given(name, HOSTS)
+        return ToReview(main, policy, users, hosts, self._found(name, NETGROUPS), hostname)
 
     def _given(self, name: str, table: str) -> Given:
         """Returns a table of a host, or the fleet's where the host has none. Raises `Fault` if there is neither."""
@@ -195,26 +218,32 @@ class Fleet:
             raise Fault(f"{REQUESTS} has no files")
         return [file for _, file in sorted(found)]
 
-    def _policy(self, folder: str) -> tuple[str, dict[str, bytes], list[str]]:
-        """Returns a policy's path, the files of a host's own policy and directory, and which are the fleet's."""
+    def _policy(self, name: str) -> Read:
+        """Returns what an audit of a host reads beside requests. Raises `Fault` if something is not there."""
         own: dict[str, bytes] = {}
         shared = []
-        main = self._main_of(folder)
+        folder = os.path.join(self.folder, name)
+        main, hostname = self._main_of(folder), ""
         if self._exists(folder, TREE):
-            own.update(self._tree(folder, main))
+            tree, hostname = self._tree_on(name, folder, main, ROOT)
+            own.update(_by_names(tree))
+        elif self.shared_names_host and self.judge == REVIEW:
+            main = self.shared_main
+            tree, hostname = self._tree_on(name, self.folder, main, ROOT)
+            own.update(_by_names(tree))
         elif self._exists(self.folder, TREE):
             main = self.shared_main
             shared.append(TREE)
         else:
             raise Fault(f"there is no {TREE}")
-        for name in (USERS, HOSTS, *self._further()):
-            if self._exists(folder, name):
-                own[name] = self._read(folder, name)
-            elif name in self.shared:
-                shared.append(name)
-            elif name != NETGROUPS:
-                raise Fault(f"there is no {name}")
-        return main, own, shared
+        for table in (USERS, HOSTS, *self._further()):
+            if self._exists(folder, table):
+                own[table] = self._read(folder, table)
+            elif table in self.shared:
+                shared.append(table)
+            elif table != NETGROUPS:
+                raise Fault(f"there is no {table}")
+        return Read(main, own, shared, hostname)
 
     def _further(self) -> tuple[str, ...]:
         """Returns the tables beside users and hosts that the program takes, if they are there."""
@@ -224,10 +253,20 @@ class Fleet:
         """Returns the path of the policy's main file, as tools/collect notes it."""
         return main_of(folder, self.folder) if self._exists(folder, POLICY) else MAIN
 
-    def _tree(self, folder: str, main: str) -> dict[str, bytes]:
-        """Returns the files of the policy of a folder, by their names below it."""
-        files = files_of_tree(os.path.join(folder, TREE), main, os.fsencode(ROOT), self.folder)
-        return {TREE + os.fsdecode(path): text for path, text in files.items()}
+    def _tree(self, folder: str, main: str, root: str, hostname: str = "") -> Tree:
+        """Returns the policy of a folder, as a host of this name reads it below a root folder."""
+        return read_tree(os.path.join(folder, TREE), main, os.fsencode(root), self.folder, hostname)
+
+    def _tree_on(self, name: str, folder: str, main: str, root: str) -> tuple[Tree, str]:
+        """Returns the policy of a folder as a host of the fleet reads it, and the host's name if that stands in it.
+
+        Only the second program reads such a policy: for the first one there is no name.
+        """
+        tree = self._tree(folder, main, root)
+        if not tree.names_host or self.judge != REVIEW:
+            return tree, ""
+        hostname = hostname_of(os.path.join(self.folder, name), self.folder, name)
+        return self._tree(folder, main, root, hostname), hostname
 
     def _exists(self, folder: str, name: str) -> bool:
         """Returns whether a folder has a name."""
@@ -237,25 +276,30 @@ class Fleet:
         """Returns the bytes of a file below a folder."""
         return foreign.read(os.path.join(folder, name), foreign.REQUESTS_CAP, self.folder)
 
-    def _job(
-        self, name: str, main: str, own: dict[str, bytes], shared: list[str], sources: list[tuple[str, str]]
-    ) -> Job:
-        read = dict(own)
-        read.update((file, text) for file, text in self.shared.items() if file.split("/")[0] in shared)
-        words = [name, main, self.judge, *(word for source in sources for word in source)]
+    def _job(self, name: str, found: Read, sources: list[tuple[str, str]]) -> Job:
+        read = dict(found.own)
+        read.update((file, text) for file, text in self.shared.items() if file.split("/")[0] in found.shared)
+        named = [*words_of_hostname(found.hostname), name, found.main, self.judge]
+        words = [*named, *(word for source in sources for word in source)]
         parts = [b"shard 4", self.program_sum.encode(), b"%d" % len(words), *map(os.fsencode, words)]
         parts += [part for file in sorted(read) for part in (os.fsencode(file), read[file])]
         return Job(
             name=name,
             digest=digest_of(parts),
-            main=main,
-            files=own,
-            shared=shared,
+            main=found.main,
+            files=found.own,
+            shared=found.shared,
             sources=sources,
             threads=self.asked.threads,
             limit=self.asked.limit,
             judge=self.judge,
+            hostname=found.hostname,
         )
+
+
+def _by_names(tree: Tree) -> dict[str, bytes]:
+    """Returns the files of a policy by their names below the folder that has its tree."""
+    return {TREE + os.fsdecode(path): text for path, text in tree.files.items()}
 
 
 def _want_name(name: str) -> None:

@@ -19,6 +19,7 @@ from kulavemia.fleet_evidence import Input
 from kulavemia.fleet_foreign import Foreigners
 from kulavemia.fleet_plan import Fleet, Given, ToReview
 from kulavemia.fleet_work import DONE, FAILED, HOSTS, REFUSED, TREE, USERS
+from kulavemia.hostname import words_of_hostname
 from kulavemia.netgroups import NETGROUPS
 from kulavemia.program import Policy
 from kulavemia.requests import number_of
@@ -87,7 +88,8 @@ class Reviewing:
         except (Fault, OSError) as fault:
             shutil.rmtree(self._place(name), ignore_errors=True)
             is_refused = isinstance(fault, Fault) and fault.status != FAILED_HERE
-            return Reviewed(name, REFUSED if is_refused else FAILED, fault=line_of(fault))
+            said = "\n".join((line_of(fault), *(fault.further if isinstance(fault, Fault) else ())))
+            return Reviewed(name, REFUSED if is_refused else FAILED, fault=program.with_hint(said))
 
     def _reviewed(self, name: str, scratch: str) -> Reviewed:
         """Returns a host whose tables are made. Raises `Fault` or `OSError` if there are none."""
@@ -99,7 +101,7 @@ class Reviewing:
             shutil.rmtree(place, ignore_errors=True)
             write_copies(root, found.policy.files)
             with outputs.new_folder(place) as part:
-                self._write(part, Policy(root + found.main, "", "", root), made)
+                self._write(part, Policy(root + found.main, "", "", root, hostname=found.hostname), made)
         users = len(users_in(os.path.join(place, USERS)))
         return Reviewed(name, DONE, users, self.fleet.gathered(name), made.texts[DIGEST].decode())
 
@@ -118,7 +120,7 @@ class Reviewing:
             texts[NETGROUPS] = found.netgroups.text
         lacks = missing.lines_of(os.path.join(self.fleet.folder, name), self.fleet.folder)
         parts = [part for role, file in inputs for part in (role, file.path, file.sum)]
-        words = ["roots 2", str(self.form), found.main, *parts, *lacks]
+        words = ["roots 2", *words_of_hostname(found.hostname), str(self.form), found.main, *parts, *lacks]
         digest = digest_of([hosts, *map(os.fsencode, words)])
         return _Made({**texts, DIGEST: digest.encode()}, inputs, lacks)
 
@@ -133,7 +135,7 @@ class Reviewing:
             Asked(self.second, policy._replace(users=users, hosts=hosts, netgroups=netgroups), self.form).write(part)
         except Fault as fault:
             # Which folder by chance a file stood in says nothing.
-            raise Fault(str(fault).replace(os.path.join(part, ""), ""), fault.status) from None
+            raise Fault(str(fault).replace(os.path.join(part, ""), ""), fault.status, fault.further) from None
 
     def _own_hosts(self, name: str, given: Given) -> bytes:
         """Returns the rows of the fleet's hosts file that are a host's own. Raises `Fault` if there are none."""

@@ -10,7 +10,7 @@ from typing import IO, NamedTuple
 from kulavemia.command import Fault
 from kulavemia.fleet_handed import PROGRAM_FILE, packed, write_below
 from kulavemia.netgroups import NETGROUPS
-from kulavemia.program import NAME, Judge, Policy, Rows
+from kulavemia.program import NAME, Judge, Policy, Rows, with_hint
 from kulavemia.requests import Source
 from kulavemia.shown import Form
 
@@ -33,7 +33,7 @@ _REFUSING = (1, 2, 3)
 class Job(NamedTuple):
     """A shard with all that its audit reads: its own files, and the names of those that are shared.
 
-    The judge is the name of the program that is handed over.
+    The judge is the name of the program that is handed over. The host's name is empty where its policy has no `%h`.
     """
 
     name: str
@@ -45,6 +45,7 @@ class Job(NamedTuple):
     threads: int
     limit: float
     judge: str = NAME
+    hostname: str = ""
 
 
 class Answer(NamedTuple):
@@ -88,7 +89,7 @@ def _asked(job: Job, shared: str, folder: str, report: IO[bytes]) -> Answer:
 
     judge = Judge(os.path.join(shared, PROGRAM_FILE), job.judge)
     netgroups = place(NETGROUPS) if NETGROUPS in {*job.files, *job.shared} else ""
-    policy = Policy(ROOT + job.main, place(USERS), place(HOSTS), netgroups=netgroups)
+    policy = Policy(ROOT + job.main, place(USERS), place(HOSTS), netgroups=netgroups, hostname=job.hostname)
     sources = [Source(sender, sender, 0, os.path.join(folder, file), None) for sender, file in job.sources]
     words = judge.words(policy, sources, job.threads)
     running = subprocess.Popen(
@@ -106,7 +107,7 @@ def _asked(job: Job, shared: str, folder: str, report: IO[bytes]) -> Answer:
     status = REFUSED if running.returncode in _REFUSING else UNFIT
     said = said or _first_error(os.fsdecode(report.read()))
     ended = f"the program ended with status {running.returncode}"
-    return Answer(status, said.strip().replace(ROOT, "") or ended)
+    return Answer(status, with_hint(said.strip().replace(ROOT, "")) or ended)
 
 
 def _end(running: subprocess.Popen[bytes]) -> None:

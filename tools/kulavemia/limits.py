@@ -17,3 +17,6 @@ REQUESTS = 1_000_000
 SENDERS = 64
 SOURCES = 256
 WORKERS = 16
+
+# Of a host's name in place of %h: its bytes.
+HOSTNAME_BYTES = 255

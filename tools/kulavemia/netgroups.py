@@ -9,7 +9,7 @@ import threading
 from collections.abc import Iterable, Iterator, Sequence
 from typing import IO, NamedTuple, cast
 
-from kulavemia import foreign, limits
+from kulavemia import foreign, hostname, limits
 from kulavemia.command import FAILED, Fault, warn
 from kulavemia.lines import is_comment
 from kulavemia.policy import files_of, include_of
@@ -53,10 +53,10 @@ class Triple(NamedTuple):
 def named_in(main: str) -> list[str]:
     """Returns the netgroups that a policy of this machine may name, with its included files, in their order.
 
-    The non-Unix groups among them begin with `%:`.
+    The non-Unix groups among them begin with `%:`. In include lines `%h` is this machine.
     """
     found: dict[bytes, None] = {}
-    for lines in files_of(main).values():
+    for lines in files_of(main, hostname.of_this_machine()).values():
         for line in lines:
             if not is_comment(line.text) and include_of(line) is None:
                 found.update(dict.fromkeys(_named_by(line.text)))

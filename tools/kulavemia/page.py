@@ -59,6 +59,7 @@ class Inputs(NamedTuple):
     root: str = ""
     old_policy: str = ""
     old_root: str = ""
+    hostname: str = ""
     review: str = ""
     users: str = ""
     hosts: str = ""
@@ -147,8 +148,8 @@ class Page:
         self.evidence = evidence or Evidence(made_now())
         self.now = time.time()
         self.places: Numbering[str] = Numbering()
-        self.rules = Rules(inputs.policy, inputs.root) if inputs.policy else None
-        self.old_rules = Rules(inputs.old_policy, inputs.old_root) if inputs.old_policy else None
+        self.rules = Rules(inputs.policy, inputs.root, inputs.hostname) if inputs.policy else None
+        self.old_rules = Rules(inputs.old_policy, inputs.old_root, inputs.hostname) if inputs.old_policy else None
         if self.rules:
             for rule in self.rules.all():
                 self.places.of(rule.place)

@@ -2,17 +2,22 @@
 
 import os
 import re
-from collections.abc import Callable, Iterator
+from collections.abc import Iterator
 from typing import NamedTuple
 
 from kulavemia import foreign, limits
 from kulavemia.command import Fault
+from kulavemia.hostname import short_name
 from kulavemia.lines import cut, is_comment, pieces
 
 _INCLUDE = re.compile(rb"[@#]include(dir)?(?:[ \t]+(.*))?$", re.DOTALL)
 _QUOTED_PATH = re.compile(rb'"((?:[^"\\]|\\.)*)"', re.DOTALL)
 _BARE_PATH = re.compile(rb'(?:[^ \t"\\]|\\.)*', re.DOTALL)
-_ESCAPED = re.compile(rb"\\(.)", re.DOTALL)
+# What a path has in place of other text: an escape, or the mark of the host's name.
+_ESCAPED = re.compile(rb"\\(.)|%h", re.DOTALL)
+# What is written otherwise without quotes: digits of a byte, but for those that end a text or a line, and blanks.
+_IN_QUOTES = re.compile(rb"\\x([0-9a-fA-F]{2})(?<!00)(?<!0[aAdD])|(\\.)|([ \t])", re.DOTALL)
+_TO_ESCAPE = b' \t"\\%h'
 _KEYWORD = re.compile(rb"(User|Runas|Host|Cmnd|Cmd)_Alias(?![^ \t!=,:()#\"])")
 _DEFAULTS = re.compile(rb"Defaults(?![^ \t@:!>])")
 
@@ -31,11 +36,16 @@ class Line(NamedTuple):
 
 
 class Include(NamedTuple):
-    """An include line: its place, whether it names a folder, and the path as it is meant."""
+    """An include line: its place, whether it names a folder, and the path as it is meant and as it is written without quotes."""
 
     line: Line
     of_folder: bool
     path: bytes
+    written: bytes
+
+    def names_host(self) -> bool:
+        """Returns whether the name of the host stands in the path, by `%h`."""
+        return any(found[1] is None for found in _ESCAPED.finditer(self.written))
 
 
 def lines_of(text: bytes) -> Iterator[Line]:
@@ -48,22 +58,30 @@ def lines_of(text: bytes) -> Iterator[Line]:
         first += len(run)
 
 
-def include_of(line: Line) -> Include | None:
-    """Returns the include that a line is, or `None`."""
+def include_of(line: Line, hostname: str = "") -> Include | None:
+    """Returns the include that a line is on a host of this name, or `None`. Without a name `%h` stays as it is."""
     match = _INCLUDE.match(line.text)
     if match is None:
         return None
     rest = match[2] or b""
     quoted = _QUOTED_PATH.match(rest)
     bare = _BARE_PATH.match(rest)
-    written = quoted[1] if quoted else bare[0] if bare else b""
-    return Include(line, bool(match[1]), _ESCAPED.sub(rb"\1", written))
+    written = _IN_QUOTES.sub(_unquoted, quoted[1]) if quoted else bare[0] if bare else b""
+    short = os.fsencode(short_name(hostname))
+    path = _ESCAPED.sub(lambda found: found[1] or short or found[0], written)
+    return Include(line, bool(match[1]), path, written)
 
 
-def written_include(of_folder: bool, path: bytes) -> bytes:
-    """Returns an include line of a path."""
-    escaped = re.sub(rb'([ \t"\\])', rb"\\\1", path)
-    return (b"@includedir " if of_folder else b"@include ") + escaped
+def _unquoted(found: re.Match[bytes]) -> bytes:
+    """Returns what stands between quotes as it is written without them."""
+    byte = bytes.fromhex(found[1].decode()) if found[1] else found[3]
+    return found[2] or (b"\\" + byte if found[3] or byte in _TO_ESCAPE else byte)
+
+
+def written_include(include: Include, root: bytes) -> bytes:
+    """Returns an include line whose path is below a root folder. The mark of the host's name stays one."""
+    escaped = re.sub(rb'([ \t"\\]|%(?=h))', rb"\\\1", root)
+    return (b"@includedir " if include.of_folder else b"@include ") + escaped + include.written
 
 
 def beside(file: bytes, path: bytes) -> bytes:
@@ -90,8 +108,11 @@ def read(path: bytes) -> bytes:
     return foreign.read(path, foreign.POLICY_CAP)
 
 
-def files_of(main: str) -> dict[str, list[Line]]:
-    """Returns the logical lines of a policy's files by the paths that the program gives them, each file once."""
+def files_of(main: str, hostname: str = "") -> dict[str, list[Line]]:
+    """Returns the logical lines of a policy's files by the paths that the program gives them, each file once.
+
+    The policy is that of a host of this name.
+    """
     found: dict[str, list[Line]] = {}
     waiting = [os.fsencode(main)]
     while waiting:
@@ -103,20 +124,19 @@ def files_of(main: str) -> dict[str, list[Line]]:
             raise Fault(f"{main}: includes more than {limits.POLICY_FILES} files")
         found[shown] = list(lines_of(read(path)))
         for line in found[shown]:
-            include = include_of(line)
+            include = include_of(line, hostname)
             if include is not None:
                 named = beside(path, include.path)
                 waiting.extend(kept_files(named) if include.of_folder else [named])
     return found
 
 
-def rewritten(text: bytes, path_of: Callable[[Include], bytes | None]) -> bytes:
-    """Returns a policy's text with other paths in its include lines; the number of each line stays."""
+def rewritten(text: bytes, root: bytes) -> bytes:
+    """Returns a policy's text whose absolute includes are below a root folder; the number of each line stays."""
     physical = text.split(b"\n")
     for line in lines_of(text):
         include = include_of(line)
-        path = path_of(include) if include is not None else None
-        if include is not None and path is not None:
-            physical[line.number - 1] = written_include(include.of_folder, path)
+        if include is not None and include.path.startswith(b"/"):
+            physical[line.number - 1] = written_include(include, root)
             physical[line.number : line.number - 1 + line.lines] = [b""] * (line.lines - 1)
     return b"\n".join(physical)

@@ -17,6 +17,7 @@ from typing import IO, NamedTuple
 from kulavemia import foreign, limits, outputs
 from kulavemia.answers import DEPENDS, REPORT_HEADER, REVIEWED_HEADER, SHOWN_HEADER
 from kulavemia.command import FAILED, PROGRAM, Fault, as_word
+from kulavemia.hostname import words_of_hostname
 from kulavemia.progress import Progress
 from kulavemia.requests import Source, batches
 from kulavemia.rows import row
@@ -41,7 +42,7 @@ MEANING = {PROGRAM: "the program is not there, or refuses; its own line is shown
 class Policy(NamedTuple):
     """The policy by which requests are judged. Places in a copy below a root folder are shown without that folder.
 
-    The file of netgroups is empty where there is none.
+    The file of netgroups is empty where there is none, and so is the name of the policy's host where it has no `%h`.
     """
 
     file: str
@@ -49,6 +50,11 @@ class Policy(NamedTuple):
     hosts: str
     root: str = ""
     netgroups: str = ""
+    hostname: str = ""
+
+    def words(self) -> list[str]:
+        """Returns the words of a command line of `sudo_review` that say how the policy is read."""
+        return [*words_of_netgroups(self.netgroups), *words_of_hostname(self.hostname)]
 
     def want_plain(self) -> None:
         """Raises `Fault` if a program would wait for one of the files, or read without end."""
@@ -67,7 +73,7 @@ class Judge(NamedTuple):
         """Returns the words of the command line that judges the sources; no option is read behind `--`."""
         directory = ["--users", as_word(policy.users), "--hosts", as_word(policy.hosts)]
         if self.name == REVIEW:
-            directory += words_of_netgroups(policy.netgroups)
+            directory += policy.words()
         named = [f"{source.sender}={source.file}" for source in sources]
         return [self.path, _COMMANDS[self.name], *directory, "--workers", str(workers), "--", policy.file, *named]
 
@@ -124,13 +130,13 @@ def find(given: str | None, name: str = NAME) -> str:
     raise Fault(f"no program {name}: build it, or name it by {_OPTIONS[name]} or ${variable}", PROGRAM)
 
 
-def find_judge(given: str | None, review: str | None, has_netgroups: bool = False) -> Judge:
+def find_judge(given: str | None, review: str | None, second_alone: bool = False) -> Judge:
     """Returns the program that judges requests: the second one, which reads more, or the first where that is not there.
 
     A program that the command line or the environment names comes before one that is found. Raises `Fault` if there is
-    none. Netgroups are read by the second one alone.
+    none. Netgroups and the name of a host are read by the second one alone.
     """
-    if has_netgroups:
+    if second_alone:
         return Judge(find(review, REVIEW), REVIEW)
     named = (review, REVIEW), (given, NAME), (os.environ.get(REVIEW.upper()), REVIEW), (os.environ.get(NAME.upper()), NAME)
     name = next((name for path, name in named if path), None)
@@ -162,6 +168,11 @@ def said_by(program: str, done: subprocess.CompletedProcess[bytes], out: bytes, 
     return Fault(first or f"{program} ended with status {done.returncode}", PROGRAM, further)
 
 
+def with_hint(said: str) -> str:
+    """Returns what the program said where it refused with its hint on the same line, as a row of a table has it."""
+    return said.replace(f"\n{REVIEW}: hint: ", "; hint: ")
+
+
 def named_by(said: Fault, policy: Policy) -> Fault:
     """Returns a program's refusal behind the path of the users or the hosts, of which it says only that they are these."""
     for kind, path in (("users", policy.users), ("hosts", policy.hosts), ("netgroups", policy.netgroups)):
@@ -173,7 +184,7 @@ def named_by(said: Fault, policy: Policy) -> Fault:
 def check(program: str, policy: Policy) -> str:
     """Returns the findings of `sudo_review` on a policy. Raises `Fault` if it refuses the policy."""
     policy.want_plain()
-    words = [program, "check", *words_of_netgroups(policy.netgroups), "--", policy.file]
+    words = [program, "check", *policy.words(), "--", policy.file]
     done = subprocess.run(words, stdout=subprocess.PIPE, stderr=subprocess.PIPE, check=False)
     if done.returncode != 0:
         raise named_by(said_by(program, done, done.stdout, policy.root), policy)

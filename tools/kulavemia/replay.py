@@ -50,6 +50,7 @@ class Options(NamedTuple):
     old_tree: str | None
     directory: str | None
     netgroups: str | None
+    hostname: str | None
     programs: str
     no_probe: bool
     at_most: int | None
@@ -84,11 +85,15 @@ class Directory(NamedTuple):
 
 
 class Given(NamedTuple):
-    """The inputs of a replay, all found and named. No link to a log is followed below the folder `below`."""
+    """The inputs of a replay, all found and named. No link to a log is followed below the folder `below`.
+
+    The name of the policy's host is empty where nobody gave it, and no policy of a collected host has `%h`.
+    """
 
     policy: Policy
     old_policy: Policy | None
     directory: Directory
+    hostname: str
     logs: Sequence[str]
     below: str | None
 
@@ -117,29 +122,40 @@ def want(given: Options) -> None:
 def prepared(given: Options) -> Given:
     """Returns what the command line names; of other machines' policies and users what is to be written."""
     collected = given.collected
+    hostname = given.hostname or ""
+    policy, old = _policies(given, hostname)
+    if collected and not hostname and any(found.prepared.names_host for found in (policy, old) if found):
+        hostname = directory.hostname_of(collected, collected, os.path.basename(os.path.abspath(collected)))
+        policy, old = _policies(given, hostname)
+    if given.logs or not collected:
+        return Given(policy, old, _directory(given), hostname, given.logs, None)
+    return Given(policy, old, _directory(given), hostname, _collected_logs(collected), collected)
+
+
+def _policies(given: Options, hostname: str) -> tuple[Policy, Policy | None]:
+    """Returns the policy, and the one before where there is one, as a host of this name reads them."""
+    collected = given.collected
     tree = os.path.join(collected, "tree") if collected else given.tree
     main = given.policy or (main_of(collected, collected) if collected else "/etc/sudoers")
-    policy = _policy(given, main, tree, "policy", collected)
+    policy = _policy(given, main, tree, "policy", collected, hostname)
     old_main = given.old_policy or (main if given.old_tree else "")
-    old = _policy(given, old_main, given.old_tree, "old-policy", given.old_tree) if old_main else None
-    if given.logs or not collected:
-        return Given(policy, old, _directory(given), given.logs, None)
-    return Given(policy, old, _directory(given), _collected_logs(collected), collected)
+    return policy, _policy(given, old_main, given.old_tree, "old-policy", given.old_tree, hostname) if old_main else None
 
 
-def _policy(given: Options, main: str, tree: str | None, name: str, below: str | None) -> Policy:
+def _policy(given: Options, main: str, tree: str | None, name: str, below: str | None, hostname: str) -> Policy:
     """Returns a policy of this machine, or that of a tree, which is copied to a folder of this name."""
     if not tree:
-        return Policy(of_this_machine(main, given.this_machine), {}, _own_files(main))
+        return Policy(of_this_machine(main, given.this_machine, hostname), {}, _own_files(main, hostname))
     root = os.path.abspath(os.path.join(given.out, name))
-    found = read_tree(tree, main, os.fsencode(root), below)
-    return Policy(Prepared(main, root), found.files, found.originals)
+    found = read_tree(tree, main, os.fsencode(root), below, hostname)
+    return Policy(Prepared(main, root, found.names_host), found.files, found.originals)
 
 
-def _own_files(main: str) -> list[File]:
+def _own_files(main: str, hostname: str) -> list[File]:
     """Returns what the files of a policy of this machine are like, none if the program will say what is wrong."""
     try:
-        return [file_of_text(path, read(os.fsencode(path)), os.stat(path).st_mtime_ns) for path in files_of(main)]
+        paths = files_of(main, hostname)
+        return [file_of_text(path, read(os.fsencode(path)), os.stat(path).st_mtime_ns) for path in paths]
     except (Fault, OSError):
         return []
 
@@ -207,6 +223,8 @@ def sums(given: Options, found: Given, files: Described) -> dict[str, str]:
         "the directory": _sum_of_files(files.directory) + digest_of([repr(people).encode("utf-8", "surrogateescape")]),
         "the list of programs": files.programs.sum,
     }
+    if found.hostname:
+        made["the host"] = found.hostname
     for path in [path for path in (given.sorting.host_map, given.sorting.users) if path]:
         made[path] = file_of(path, foreign.TABLE_CAP).sum
     for log in files.logs:
@@ -230,7 +248,8 @@ class Replay:
         self.say = say
         self.program = program.find(given.program)
         self.second = program.find(given.review, program.REVIEW)
-        self.judge = program.find_judge(given.program, given.review, bool(self.found.directory.netgroups))
+        second_alone = bool(self.found.directory.netgroups or self.found.hostname)
+        self.judge = program.find_judge(given.program, given.review, second_alone)
         self.requests = ""
         self.probe = ""
         self.changes = ""
@@ -245,7 +264,7 @@ class Replay:
 
     def _judged_by(self, policy: Prepared) -> program.Policy:
         found = self.found.directory
-        return program.Policy(policy.file(), found.users, found.hosts, policy.root, found.netgroups)
+        return program.Policy(policy.file(), found.users, found.hosts, policy.root, found.netgroups, self.found.hostname)
 
     def run(self) -> None:
         """Runs the steps that are not done yet."""
@@ -256,6 +275,8 @@ class Replay:
         policy, old = self.found.policy.prepared, self.found.old_policy
         if self.found.directory.netgroups:
             self.say(f"netgroups: {self.found.directory.netgroups}")
+        if self.found.hostname:
+            self.say(f"hostname: {self.found.hostname}")
         found = program.check(self.second, self._judged_by(policy))
         self.say(f"check: {len(found.splitlines()) - 1} warnings")
         if self.found.logs:
@@ -399,6 +420,7 @@ class Replay:
             root=policy.root,
             old_policy=old.main if old else "",
             old_root=old.root if old else "",
+            hostname=self.found.hostname,
             review=self._folder(REVIEW),
             users=self.found.directory.users,
             hosts=self.found.directory.hosts,

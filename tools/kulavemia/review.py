@@ -14,7 +14,7 @@ from typing import BinaryIO, NamedTuple
 from kulavemia import foreign, outputs
 from kulavemia.command import DONE, PROGRAM, Fault, as_word
 from kulavemia.policy import files_of
-from kulavemia.program import Policy, Rows, named_by, said_by, want_plain, want_written, words_of_netgroups
+from kulavemia.program import Policy, Rows, named_by, said_by, want_plain, want_written
 from kulavemia.requests import Source, batches, number_of
 from kulavemia.rows import header_of, open_write, read_open
 from kulavemia.rules import shown_line
@@ -98,10 +98,10 @@ class Asked(NamedTuple):
 
     def cautions(self) -> list[Caution]:
         """Returns the cautions on the policy, in the program's order."""
-        files = files_of(self.policy.file)
-        lines = {f"{path}:{line.number}": shown_line(line) for path, lines in files.items() for line in lines}
         with self._printed(CAUTIONS, ["--", self.policy.file]) as part:
+            files = files_of(self.policy.file, self.policy.hostname)
             found = cautions_of(part.read().decode("utf-8", "surrogateescape"), list(files), self.program)
+        lines = {f"{path}:{line.number}": shown_line(line) for path, lines in files.items() for line in lines}
         root = self.policy.root
         return [
             caution._replace(place=caution.place.removeprefix(root), line=without(root, lines.get(caution.place, "")))
@@ -152,7 +152,7 @@ class Asked(NamedTuple):
         """Yields what a command of the program prints. Raises `Fault` if it refuses, and `TimeoutExpired` beyond a limit."""
         self.policy.want_plain()
         with outputs.scratch() as part:
-            line = [self.program, name, *words_of_netgroups(self.policy.netgroups), *words]
+            line = [self.program, name, *self.policy.words(), *words]
             quiet = subprocess.DEVNULL
             done = subprocess.run(line, stdin=quiet, stdout=part, stderr=subprocess.PIPE, check=False, timeout=limit)
             part.seek(0)

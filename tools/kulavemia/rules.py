@@ -17,9 +17,9 @@ class Rule(NamedTuple):
 class Rules:
     """The lines of a policy. A policy below a root folder is shown without that folder."""
 
-    def __init__(self, main: str, root: str = "") -> None:
+    def __init__(self, main: str, root: str = "", hostname: str = "") -> None:
         self.root = root.rstrip("/")
-        files = files_of(self.root + main)
+        files = files_of(self.root + main, hostname)
         self.files = [self._shown(path) for path in files]
         self.lines = {f"{self._shown(path)}:{line.number}": line for path, lines in files.items() for line in lines}
         self.sum = _sum_of(list(files))

@@ -133,11 +133,37 @@ class Collect(Case):
             self.assertEqual(self.run_tool("collect", "--version")[0], f"collect {file.read()}")
         self.assertIn("does not know it", self.collect("--version", status=2)[1])
 
+    def test_the_name_of_the_host_is_that_which_sudo_has(self) -> None:
+        main = self.write("etc/sudoers", "@include q.%h\n@includedir %h.d\n")
+        self.write("etc/q.Web1", "")
+        self.write("etc/Web1.d/x", "")
+        for own, resolved, wanted in (
+            ("Web1", "web1.example.org", "Web1.example.org"),
+            ("Web1", "localhost", "Web1"),
+            ("Web1", "", "Web1"),
+            ("Web1.example.org", "localhost.localdomain", "Web1.example.org"),
+            ("Web1", "Web1", "Web1"),
+        ):
+            self.stub("hostname", f"case $* in -f) echo {resolved} ;; *) echo {own} ;; esac")
+            files, _ = self.collect("--policy", main, "--no-logs")
+            tree = {name.removeprefix(f"tree{self.folder}/etc/") for name in files if name.startswith("tree/")}
+            self.assertEqual(tree, {"sudoers", "q.Web1", "Web1.d/x"})
+            self.assertEqual(files["hostname"].decode(), f"{wanted}\n")
+
+    def test_a_name_that_is_none_leads_nowhere(self) -> None:
+        main = self.write("etc/sudoers", "@include q.%h\n")
+        for name in ("../x", "a/b", "a&b", "a b"):
+            self.stub("hostname", f"echo '{name}'")
+            self.assertIn(f"{self.folder}/etc/q.", self.collect("--policy", main, "--no-logs", status=3)[1])
+
+    def stub(self, name: str, text: str) -> None:
+        """Puts a command before that of the machine."""
+        os.chmod(self.write(f"bin/{name}", f"#!/bin/sh\n{text}\n"), 0o755)
+        self.enterContext(mock.patch.dict(os.environ, {"PATH": f"{self.path('bin')}:{os.environ['PATH']}"}))
+
     def stub_getent(self, *cases: str) -> None:
         """Puts a getent before that of the machine, which it asks in all other cases."""
-        text = "\n".join(("#!/bin/sh", "case $* in", *cases, f"  *) exec {shutil.which('getent')} \"$@\" ;;", "esac", ""))
-        os.chmod(self.write("bin/getent", text), 0o755)
-        self.enterContext(mock.patch.dict(os.environ, {"PATH": f"{self.path('bin')}:{os.environ['PATH']}"}))
+        self.stub("getent", "\n".join(("case $* in", *cases, f"  *) exec {shutil.which('getent')} \"$@\" ;;", "esac")))
 
     def test_netgroups_that_the_policy_may_name(self) -> None:
         self.stub_getent(

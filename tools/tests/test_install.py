@@ -274,6 +274,7 @@ class Completions(unittest.TestCase):
         self.assertEqual(self.proposed("sudo_review", "compare", "p", "q", "--requests", "s=di"), ["a file for di"])
         self.assertEqual(self.proposed("sudo_review", "subjects", "p", "--users", "d"), ["a file for d"])
         self.assertEqual(self.proposed("sudo_audit", "expand", "p", "h"), ["host"])
+        self.assertEqual(self.proposed("sudo_review", "check", "p", "--hostname", "no.such.host"), [""])
 
 
 @unittest.skipUnless(shutil.which("dpkg-deb"), "dpkg-deb is not installed")

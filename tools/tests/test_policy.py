@@ -56,6 +56,9 @@ class Lines(Case):
             (b"#includedir\t/etc/d  # note", True, b"/etc/d"),
             (b'@include "a \\"b"', False, b'a "b'),
             (b"@include a\\ b", False, b"a b"),
+            (b"@include a\\x62", False, b"ax62"),
+            (b'@include "\\x2fa\\x62\\x2E\\x20\\x5c c"', False, b"/ab. \\ c"),
+            (b'@include "a\\x00\\x0a\\x09\\xc3\\xA4\\x6"', False, b"ax00x0a\t\xc3\xa4x6"),
         ):
             found = include_of(next(lines_of(text)))
             assert found is not None
@@ -63,11 +66,22 @@ class Lines(Case):
         self.assertIsNone(include_of(next(lines_of(b"@includes x"))))
 
     def test_other_paths_keep_the_numbers_of_lines(self) -> None:
-        text = b"a\n@include \\\n  /x\\\n y\nb\n"
-        self.assertEqual(
-            rewritten(text, lambda include: b"/new place" + include.path), b"a\n@include /new\\ place/xy\n\n\nb\n"
-        )
-        self.assertEqual(rewritten(text, lambda include: None), text)
+        text = b"a\n@include \\\n  /x\\\n y\nb\n@include c\n"
+        self.assertEqual(rewritten(text, b"/new place"), b"a\n@include /new\\ place/xy\n\n\nb\n@include c\n")
+
+    def test_the_name_of_the_host_stays_where_it_stood(self) -> None:
+        for text, path in (
+            (rb"@include /a.%h", b"/a.web1"),
+            (rb'@includedir "/a b/%h\"" # c', b'/a b/web1"'),
+            (rb"@include /a\%h%\h%H\\%h%%h", rb"/a%h%h%H\web1%web1"),
+            (rb"@include /\%h", b"/%h"),
+            (rb'@include "/\x25h%\x68\x25\x68\x61.%h"', b"/%h%h%ha.web1"),
+        ):
+            line = next(lines_of(rewritten(text, b"/%h/r h")))
+            for written, before in ((next(lines_of(text)), b""), (line, b"/%h/r h")):
+                found = include_of(written, "web1.example.org")
+                assert found is not None
+                self.assertEqual((found.path, found.names_host()), (before + path, b"web1" in path))
 
     def test_files_and_places(self) -> None:
         main = self.write("sudoers", "a ALL = ALL, \\\n  !ALL\n@includedir d\n@include sudoers\n")
@@ -80,6 +94,15 @@ class Lines(Case):
             [tuple(rule) for rule in rules.all()], [("/sudoers:1", "a ALL = ALL, !ALL"), ("/d/10-x:1", "b ALL = ALL")]
         )
         self.assertEqual(rules.text("/gone:1"), "")
+
+    def test_the_files_of_a_host(self) -> None:
+        main = self.write("sudoers", "@include q.%h\n@includedir d.%h\n")
+        for name in ("q.web1", "d.web1/x", "q.%h"):
+            self.write(name, f"# {name}\n")
+        self.assertEqual(list(files_of(main, "web1.a.b")), [main, self.path("q.web1"), self.path("d.web1/x")])
+        self.assertEqual(list(files_of(main)), [main, self.path("q.%h")])
+        self.assertTrue(of_this_machine(main, False).names_host)
+        self.assertFalse(of_this_machine(self.path("q.%h"), False).names_host)
 
 
 class Trees(Case):

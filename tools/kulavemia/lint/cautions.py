@@ -12,15 +12,16 @@ from kulavemia.policy import files_of
 _FOUND = (0, 5)
 
 
-def with_cautions(report: Report, program: str, options: Sequence[str], strict: bool) -> Report:
+def with_cautions(report: Report, program: str, options: Sequence[str], strict: bool, hostname: str = "") -> Report:
     """Returns a report of a file with the cautions on it behind its findings, as the program finds them with these options.
 
-    They change no status, unless they are to count as errors do. Of a file that cannot be read there are none.
+    The file is read as on a host of this name, which the options name too. Cautions change no status, unless they are to count
+    as errors do. Of a file that cannot be read there are none.
     """
     if report.status == FAILED:
         return report
     try:
-        found = _cautions(program, report.path, options)
+        found = _cautions(program, report.path, options, hostname)
     except (Fault, OSError) as fault:
         finding = Finding(report.path, None, None, ERROR, "no-answer", f"no cautions: {fault}")
         return Report(report.path, FAILED, (*report.findings, finding))
@@ -28,7 +29,7 @@ def with_cautions(report: Report, program: str, options: Sequence[str], strict: 
     return Report(report.path, status, (*report.findings, *found))
 
 
-def _cautions(program: str, path: str, options: Sequence[str]) -> list[Finding]:
+def _cautions(program: str, path: str, options: Sequence[str], hostname: str) -> list[Finding]:
     """Returns the cautions on a file, none if the program refuses it. Raises `Fault` if it gives no answer."""
     word = as_word(path)
     words = [program, review.CAUTIONS, *options, "--", word]
@@ -38,7 +39,7 @@ def _cautions(program: str, path: str, options: Sequence[str]) -> list[Finding]:
     if done.returncode not in _FOUND:
         raise Fault(os.fsdecode(done.stderr).strip() or f"{program} ended with status {done.returncode}")
     text = done.stdout.decode("utf-8", "surrogateescape")
-    return [_finding(caution) for caution in review.cautions_of(text, list(files_of(word)), program)]
+    return [_finding(caution) for caution in review.cautions_of(text, list(files_of(word, hostname)), program)]
 
 
 def _finding(caution: review.Caution) -> Finding:

@@ -117,22 +117,22 @@ def text_of(path: str) -> bytes | None:
         return None
 
 
-def leading_out(main: str, bounds: Bounds) -> list[Finding]:
-    """Returns a finding for each link and each include line, from a file on, that leads out."""
+def leading_out(main: str, bounds: Bounds, hostname: str = "") -> list[Finding]:
+    """Returns a finding for each link and each include line, from a file on, that leads out on a host of this name."""
     if not bounds.hold(main):
         return [_of_link(main)]
     try:
-        return list(dict.fromkeys(_findings(main, bounds)))
+        return list(dict.fromkeys(_findings(main, bounds, hostname)))
     except Fault as fault:
         return [Finding(main, None, None, ERROR, "too-many-files", str(fault))]
 
 
-def _findings(main: str, bounds: Bounds) -> Iterator[Finding]:
+def _findings(main: str, bounds: Bounds, hostname: str) -> Iterator[Finding]:
     """Yields the findings. Raises `Fault` if there are more files and include lines than the program takes."""
     waiting, seen, count = [main], {main}, 0
     while waiting:
         path = waiting.pop(0)
-        for include in includes_of(text_of(path) or b""):
+        for include in includes_of(text_of(path) or b"", hostname):
             named = beside(os.fsencode(path), include.path)
             count += 1
             if count > INCLUDES_LIMIT or len(seen) > 1 + limits.POLICY_FILES:
@@ -160,7 +160,7 @@ def within(report: Report, bounds: Bounds) -> Report:
     return Report(report.path, FAILED, (*kept, Finding(report.path, None, None, ERROR, RULE, text)))
 
 
-def includes_of(text: bytes) -> Iterator[Include]:
+def includes_of(text: bytes, hostname: str = "") -> Iterator[Include]:
     """Yields the include lines of a text, and lines that would be includes if they were not joined to the one above.
 
     A text may be long; most of it is passed over. Raises `Fault` at more such lines, or longer ones, than a policy has.
@@ -175,8 +175,10 @@ def includes_of(text: bytes) -> Iterator[Include]:
         if count > _LINES_LIMIT or end - start > _LENGTH_LIMIT:
             raise Fault("too many include lines, or one that is too long")
         number, at = number + text.count(b"\n", at, start), start
-        for include in filter(None, map(include_of, lines_of(text[start:end]))):
-            yield include._replace(line=include.line._replace(number=number + include.line.number - 1))
+        for line in lines_of(text[start:end]):
+            include = include_of(line, hostname)
+            if include is not None:
+                yield include._replace(line=line._replace(number=number + line.number - 1))
 
 
 def _files_of(folder: bytes) -> list[bytes]:
