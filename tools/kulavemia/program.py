@@ -42,7 +42,7 @@ MEANING = {PROGRAM: "the program is not there, or refuses; its own line is shown
 class Policy(NamedTuple):
     """The policy by which requests are judged. Places in a copy below a root folder are shown without that folder.
 
-    The file of netgroups is empty where there is none, and so is the name of the policy's host where it has no `%h`.
+    Without a file of netgroups its path is empty; so is the host's name if the policy has no `%h`.
     """
 
     file: str

@@ -45,12 +45,12 @@ impl Comparison {
     }
 }
 
-/// Comparisons that are kept, a finder of their indices by digests of their blocks, and what is tried for a user.
+/// A cache of comparisons, found by digests of their blocks, with the paths to try for the current user.
 #[derive(Drop)]
 pub(crate) struct Comparisons {
     all: Vec<Comparison>,
     finder: Finder,
-    // What is tried for the user of the next comparisons.
+    // The paths to try for the current user.
     user: UserPaths,
 }
 
@@ -86,7 +86,7 @@ impl Comparisons {
         None
     }
 
-    /// Has what comes next be for a user whom these blocks list. Returns `AllocError` if allocation fails.
+    /// Sets the current user, whom these blocks list. Returns `AllocError` if allocation fails.
     pub(crate) fn begin_user(
         &mut self,
         alloc: Global,

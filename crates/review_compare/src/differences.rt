@@ -306,7 +306,7 @@ fn add_user(
     absorb_all(rows, more, Dimension::Users, finder)
 }
 
-// Returns what is found for the users from one on to another on the hosts that are asked about.
+// Returns the rows of the users from `first` on and before `end`, on the hosts that are asked about.
 fn rows_between(
     alloc: Global,
     pair: &Pair<'_>,
@@ -346,7 +346,7 @@ const PARTS: usize = 4;
 // The number of buckets in which the rows of all users are found.
 const BUCKETS_OF_ALL: usize = 16384;
 
-// Returns what is found for the users of all parts, of so many users each; rows that differ in the user alone become one.
+// Returns the rows of all parts, each of `size` users. Rows that differ in the user alone become one.
 fn joined_rows(
     alloc: Global,
     pair: &Pair<'_>,

@@ -1,4 +1,4 @@
-//! Of the rows that fit the paths to try, those of the blocks that list a user: hints, as all that is tried.
+//! The rows of a user's blocks that fit each path to try. They are hints: a witness that they lead to is checked before it is used.
 use crate::index_set::IndexSet;
 use crate::pair::Pair;
 use crate::probes::{Path, Probes, RowAt};
