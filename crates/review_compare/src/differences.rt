@@ -479,7 +479,7 @@ fn compared_grants<'a, T: Threads + Sync>(
     let asks = all_asks(alloc, directory, groups)?;
     let old_side = Side::of(alloc, old, old_grants, old_atoms)?;
     let new_side = Side::of(alloc, new, new_grants, new_atoms)?;
-    let pair = Pair::of(alloc, old_side, new_side, directory, groups)?;
+    let pair = Pair::of(alloc, threads, old_side, new_side, directory, groups)?;
     rows_where_asked(alloc, threads, &pair, scope, asks)
 }
 

@@ -1,5 +1,5 @@
 //! Which of the blocks near a change list a known host, looked up once for all users.
-ghost use Rattle.std.specs.Prelude.{◌≡◌, get_or, IfOk, None, Some, slice_get};
+ghost use Rattle.std.specs.Prelude.{◌≡◌, ◌<◌, ◌+◌, ◌*◌, ◌^◌, get_or, IfOk, None, Some, slice_get, vec_len};
 ghost use Rattle.sudo_match.specs.declared.people.Machine.{Machine as TheMachine};
 ghost use Rattle.review_compare.specs.Body.Chosen.{AreMarks, host_at};
 ghost use Rattle.review_compare.specs.Body.HostMarks as body;
@@ -9,6 +9,8 @@ use crate::pair::Pair;
 use crate::side::Side;
 use crate::spot::Listed;
 use std::alloc::{AllocError, Global};
+use std::thread;
+use std::thread::Threads;
 use sudo_match::{Directory, Machine};
 
 /// Whether the host lists of blocks of both policies allow a host, by the indices of the blocks, where that was looked up.
@@ -114,10 +116,82 @@ fn most_hosts(old: &Side<'_>, new: &Side<'_>) -> usize {
     MOST_MARKS.checked_div(blocks).unwrap_or(0)
 }
 
-/// Returns for each known host on which the policies may differ which of the blocks near the change list it. Returns `AllocError` if
-/// allocation fails.
-pub(crate) fn host_marks(
+// Returns the marks of the host at an index, and none if there is no such host.
+fn marks_at(
     alloc: Global,
+    old: &Side<'_>,
+    new: &Side<'_>,
+    common: Common,
+    near: &Listed,
+    directory: &Directory,
+    host: usize,
+) -> Result<HostMarks, AllocError>
+    ensures { IfOk result (λ marks. (m : TheMachine) → body.AreHostMarks old.now new.now
+        (get_or directory.now.machines host m) marks) }
+{
+    match directory.machines().get(host) {
+        Some(machine) => {
+            let is_kept = host < most_hosts(old, new);
+            marks_of(alloc, old, new, common, near, machine, is_kept)
+        }
+        None => Ok(HostMarks {
+            old: Vec::new(alloc),
+            new: Vec::new(alloc),
+        }),
+    }
+}
+
+// Returns the marks of so many hosts from `first` on; there are none behind the last host.
+fn marks_from(
+    alloc: Global,
+    old: &Side<'_>,
+    new: &Side<'_>,
+    common: Common,
+    near: &Listed,
+    directory: &Directory,
+    first: usize,
+    count: usize,
+) -> Result<Vec<HostMarks>, AllocError>
+    requires { first + count < 2 ^ 64 }
+    ensures len { IfOk result (λ marks. vec_len marks ≡ count) }
+    ensures marks { IfOk result (λ marks. body.HaveMarksFrom first old.now new.now
+        directory.now.machines marks.items) }
+{
+    let mut marks = Vec::new(alloc);
+    for host in first..first + count {
+        marks.push(marks_at(alloc, old, new, common, near, directory, host)?)?;
+    }
+    Ok(marks)
+}
+
+// The number of parts of the hosts, each of which is looked up in a thread of its own.
+const PARTS: usize = 4;
+
+// Returns the marks of all parts, each of so many hosts.
+fn joined_marks(
+    alloc: Global,
+    old: &Side<'_>,
+    new: &Side<'_>,
+    directory: &Directory,
+    count: usize,
+    parts: Vec<Result<Vec<HostMarks>, AllocError>>,
+) -> Result<Vec<HostMarks>, AllocError>
+    requires { body.AreMarkParts count old.now new.now directory.now.machines parts.items }
+    ensures { IfOk result (λ marks. body.HaveHostMarks old.now new.now
+        directory.now.machines marks.items) }
+{
+    let mut marks = Vec::new(alloc);
+    for part in parts {
+        marks.append(&mut part?)?;
+    }
+    Ok(marks)
+}
+
+/// Returns for each known host on which the policies may differ which of the blocks near the change list it. The hosts are looked up
+/// in several threads, where these can be made. Returns `AllocError` if allocation fails.
+pub(crate) fn host_marks<T: Threads + Sync>(
+    alloc: Global,
+    threads: &T,
     old: &Side<'_>,
     new: &Side<'_>,
     common: Common,
@@ -127,14 +201,21 @@ pub(crate) fn host_marks(
     ensures { IfOk result (λ marks. body.HaveHostMarks old.now new.now
         directory.now.machines marks.items) }
 {
-    let machines = directory.machines();
-    let most = most_hosts(old, new);
-    let mut marks = Vec::new(alloc);
-    for host in 0..machines.len() {
-        let machine = &machines[host];
-        marks.push(marks_of(alloc, old, new, common, near, machine, host < most)?)?;
-    }
-    Ok(marks)
+    let count = directory.machines().len() / PARTS + 1;
+    let parts = thread::map_indices(
+        threads,
+        alloc,
+        PARTS,
+        &|part: usize| -> Result<Vec<HostMarks>, AllocError>
+            requires { part * count + count < 2 ^ 64 }
+            ensures { body.IsMarkPart count old.entry.now new.entry.now
+                directory.entry.now.machines part result }
+        {
+            let first = part * count;
+            marks_from(alloc, old, new, common, near, directory, first, count)
+        },
+    )?;
+    joined_marks(alloc, old, new, directory, count, parts)
 }
 
 impl Pair<'_> {

@@ -22,6 +22,7 @@ use crate::settled::twins_of;
 use crate::side::Side;
 use crate::spot::Listed;
 use std::alloc::{AllocError, Global};
+use std::thread::Threads;
 use sudo_match::{Directory, Group, Machine, Person};
 use sudo_verdict::Asker;
 
@@ -72,8 +73,9 @@ fn probes_near(
 impl<'a> Pair<'a> {
     /// Returns two policies with their common prefix and suffix, and the blocks near a change. Returns `AllocError` if
     /// allocation fails.
-    pub(crate) fn of(
+    pub(crate) fn of<T: Threads + Sync>(
         alloc: Global,
+        threads: &T,
         old: Side<'a>,
         new: Side<'a>,
         directory: &'a Directory,
@@ -89,7 +91,7 @@ impl<'a> Pair<'a> {
         let probes = probes_near(alloc, &old, &new, common, &parts)?;
         let reaches = Reaches::of(alloc, &old, &new, common, &parts)?;
         let twins = twins_of(alloc, &parts, common)?;
-        let marks = host_marks(alloc, &old, &new, common, &near, directory)?;
+        let marks = host_marks(alloc, threads, &old, &new, common, &near, directory)?;
         Ok(Pair {
             old,
             new,
