@@ -1,7 +1,8 @@
 -- Names with a comma and a space between them, and the records of rows.
-use Rattle.std.proofs.Common.{◌≡◌, ◌∙◌, ℕ, Bool, false, cond, List, [], ◌∷◌, ◌++◌, ap, flat_map, length, map, refl, sym}
-use Rattle.std.proofs.Common.{arith, ◌+◌, suc}
-use Rattle.std.specs.Prelude.{◌*◌, Option, None, Some, codes, drop, filter, nat_lt, not}
+use Rattle.std.proofs.Common.{◌≡◌, ◌∙◌, ℕ, Bool, true, false, cond, List, [], ◌∷◌, ◌++◌, ap, flat_map, length, map, refl, sym}
+use Rattle.std.proofs.Common.{arith, ◌+◌, ◌-◌, ◌/◌, ◌≤◌, ◌⊎◌, inl, inr, length-append, min, subst, suc, zero}
+use Rattle.std.specs.Prelude.{◌*◌, ◌==◌, Option, None, Some, codes, drop, filter, nat_lt, not}
+use Rattle.std.proofs.lemmas.Bool.{eqb-true, le-ltb, or_cases}
 use Rattle.std.specs.List.{range_with_len}
 use Rattle.std.proofs.lemmas.List.Elements.{filter-append}
 use Rattle.review_grants.specs.GrantRows.{joined}
@@ -49,6 +50,59 @@ missing-more numbers n =
   where
     is_missing : ℕ → Bool
     is_missing i = not (is_among numbers i)
+
+-- how many of the numbers are below a count
+abbrev below : ℕ → List ℕ → ℕ
+below n [] = 0
+below n (m ∷ ms) = min 1 (n - m) + below n ms
+
+below-all : (n : ℕ) (ms : List ℕ) → below n ms ≤ length ms
+below-all n [] = let e : below n [] ≡ 0 = refl in omega (arith, e)
+below-all n (m ∷ ms) = let all = below-all n ms in omega (arith, all)
+
+below-more : (n : ℕ) (ms : List ℕ) → below n ms ≤ below (n + 1) ms
+below-more n [] = let e : below n [] ≡ 0 = refl in omega (arith, e)
+below-more n (m ∷ ms) = let more = below-more n ms in omega (arith, more)
+
+below-among : (n : ℕ) (ms : List ℕ) → is_among ms n ≡ true → below n ms + 1 ≤ below (n + 1) ms
+below-among n [] e = cc
+below-among n (m ∷ ms) e = go (below-more n ms) (below-among n ms) (or_cases (m == n) (is_among ms n) e)
+  where
+    go : below n ms ≤ below (n + 1) ms → (is_among ms n ≡ true → below n ms + 1 ≤ below (n + 1) ms) →
+        ((m == n) ≡ true) ⊎ (is_among ms n ≡ true) → below n (m ∷ ms) + 1 ≤ below (n + 1) (m ∷ ms)
+    go more on (inl is) = let same = eqb-true m n is in omega (arith, same, more)
+    go more on (inr among) = let one = on among in omega (arith, one)
+
+-- one index more is missing, unless it is one of the numbers
+missing-step : (numbers : List ℕ) (n : ℕ) → n ≤ length (missing n numbers) + below n numbers → (b : Bool) → is_among numbers n ≡ b →
+    n + 1 ≤ length (missing (n + 1) numbers) + below (n + 1) numbers
+missing-step numbers n so_far b e = go b e
+  where
+    long : (b : Bool) → is_among numbers n ≡ b →
+        length (missing (n + 1) numbers) ≡ length (missing n numbers) + length (cond (not b) (n ∷ []) [])
+    long b e =
+        ap length (missing-more numbers n) ∙ length-append (missing n numbers) (cond (not (is_among numbers n)) (n ∷ []) [])
+        ∙ ap (λ x. length (missing n numbers) + length (cond (not x) (n ∷ []) [])) e
+
+    go : (b : Bool) → is_among numbers n ≡ b → n + 1 ≤ length (missing (n + 1) numbers) + below (n + 1) numbers
+    go true e = let more = below-among n numbers e in let same = long true e in omega (arith, so_far, more, same)
+    go false e = let more = below-more n numbers in let one = long false e in omega (arith, so_far, more, one)
+
+-- an index below a count is missing, or a number is below the count for it
+missing-least : (numbers : List ℕ) (n : ℕ) → n ≤ length (missing n numbers) + below n numbers
+missing-least numbers zero = omega arith
+missing-least numbers (suc n) =
+    subst (λ k. k ≤ length (missing k numbers) + below k numbers) (let e : n + 1 ≡ suc n = omega arith in e)
+    (missing-step numbers n (missing-least numbers n) (is_among numbers n) refl)
+
+-- where at most half of the names are listed, at least as many are missing
+pub few-listed : (numbers : List ℕ) (count : ℕ) → length numbers ≤ count / 2 →
+    nat_lt (4 * length (missing count numbers)) (length numbers) ≡ false
+few-listed numbers count half =
+    let least = missing-least numbers count in
+    let all = below-all count numbers in
+    let twice : 2 * length numbers ≤ count = omega (arith, half) in
+    le-ltb (4 * length (missing count numbers)) (length numbers) (omega (arith, least, all, twice))
 
 -- the head of a row by names
 head-same : (names : Names) (d : KnownRows) (groups : List Group) → AreNames d groups names → (row : Row) →

@@ -200,17 +200,29 @@ fn is_brief(missing: &[usize], numbers: &[usize]) -> bool
     }
 }
 
+// Returns the names at these indices with a comma and a space between them.
+fn listed_names(alloc: Global, names: &[Vec<u8>], numbers: &[usize]) -> Result<Vec<u8>, AllocError>
+    ensures { IfOk result (λ text. text.items ≡ drop 2 (flat_map (λ i. body.separated
+        (table.name_at (map (λ v. v.items) names.now) i)) numbers.now)) }
+{
+    let separated = separated_names(alloc, names, numbers)?;
+    joined(alloc, &separated)
+}
+
 // Returns the names at these indices with a comma and a space between them, or `ALL` but those that are missing.
 fn names_text(alloc: Global, names: &[Vec<u8>], numbers: &[usize]) -> Result<Vec<u8>, AllocError>
     ensures { IfOk result (λ text. text.items
         ≡ table.names_text (map (λ v. v.items) names.now) numbers.now) }
 {
+    // At least as many are missing then.
+    if numbers.len() <= names.len() / 2 {
+        return listed_names(alloc, names, numbers);
+    }
     let missing = missing(alloc, names.len(), numbers)?;
     if is_brief(&missing, numbers) {
         return all_but(alloc, names, &missing);
     }
-    let separated = separated_names(alloc, names, numbers)?;
-    joined(alloc, &separated)
+    listed_names(alloc, names, numbers)
 }
 
 // Returns the numbers that are there.
