@@ -55,10 +55,11 @@ pub parts-more : (count : ℕ) (old new : Side) (ms : List Machine) (ks : List H
     AreMarkParts count old new ms parts → (yielded ++ part ∷ []) ++ rest ≡ parts → part ≡ Ok js →
     length ks ≡ length yielded * count → HaveHostMarks old new ms ks →
     (length (ks ++ js.items) ≡ length (yielded ++ part ∷ []) * count) × HaveHostMarks old new ms (ks ++ js.items)
-parts-more count old new ms ks js parts yielded part rest are whole is long so_far =
-    (length-append ks js.items ∙ ap (λ (n : ℕ). n + length js.items) long ∙ ap (λ (n : ℕ). length yielded * count + n) own.0
+parts-more count old new ms ks js parts yielded part rest are whole is long so_far = (
+  length-append ks js.items ∙ ap (λ (n : ℕ). n + length js.items) long ∙ ap (λ (n : ℕ). length yielded * count + n) own.0
       ∙ sym (one-more (length yielded) count) ∙ ap (λ (n : ℕ). n * count) (sym (length-append yielded (part ∷ []))),
-    marks-joined old new ms ks js.items (length yielded * count) long so_far own.1)
+  marks-joined old new ms ks js.items (length yielded * count) long so_far own.1,
+)
   where
     one-more : (n size : ℕ) → (n + 1) * size ≡ n * size + size
     one-more n size = grind arith
