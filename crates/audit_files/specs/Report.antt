@@ -60,9 +60,7 @@ tags_text t = fold with_tag [] (zip pairs t.choices)
 -- the tags of a grant, for `allow` alone
 abbrev pub verdict_tags : Verdict → List ℕ
 verdict_tags (Allow place tags) = tags_text tags
-verdict_tags (Deny place) = []
-verdict_tags NoMatch = []
-verdict_tags (Unknown w) = []
+verdict_tags _ = []
 
 -- the fields of an answer's record
 abbrev pub answer_fields : List (List ℕ) → List ℕ → Answer → List (List ℕ)

@@ -49,8 +49,7 @@ text_place (texts.BadQuote place col) = Some place
 text_place (texts.BadHex place col) = Some place
 text_place (texts.BadEscape place col) = Some place
 text_place (texts.NotPrintable place col) = Some place
-text_place (texts.TooLong file) = None
-text_place texts.Memory = None
+text_place _ = None
 
 -- the place of a fault of a policy's lines
 abbrev pub parse_place : ParseFault → Option Place

@@ -5,7 +5,7 @@ use Rattle.std.specs.Prelude.{if◌then◌else◌}
 use Rattle.sudo_grammar.specs.declared.kind.Kind.{Kind}
 use Rattle.sudo_grammar.specs.declared.kind.Kind.TheVariants.{User, Runas, Host, Cmnd}
 use Rattle.sudo_grammar.specs.declared.kind.Atom.{Atom}
-use Rattle.sudo_grammar.specs.declared.kind.Atom.TheVariants.{All, Alias, Name, Uid, Group, Gid, Host as HostName, Address, Net, Command}
+use Rattle.sudo_grammar.specs.declared.kind.Atom.TheVariants.{Alias}
 use Rattle.sudo_grammar.specs.declared.kind.Member.{Member}
 use Rattle.sudo_grammar.specs.declared.policy.Definition.{Definition}
 use Rattle.sudo_grammar.specs.declared.policy.Runas.{Runas as RunasPart}
@@ -37,9 +37,7 @@ definitions_of_list kind place ds = map (definition_in kind place) ds
 -- the definitions of one entry, in order
 abbrev pub definitions_of_body : Place → EntryBody → List AliasDefinition
 definitions_of_body place (Aliases kind definitions) = definitions_of_list kind place definitions
-definitions_of_body place (Defaults binding parameters) = []
-definitions_of_body place (Rule users sections) = []
-definitions_of_body place (Include folder hash path) = []
+definitions_of_body place _ = []
 
 abbrev pub definitions_of : Entry → List AliasDefinition
 definitions_of e = definitions_of_body e.place e.body
@@ -143,16 +141,8 @@ lists p = flat_map lists_of p.entries
 
 -- the alias that an atom names
 abbrev pub alias_named : Atom → Option (List ℕ)
-alias_named All = None
 alias_named (Alias name) = Some name
-alias_named (Name name) = None
-alias_named (Uid id) = None
-alias_named (Group name) = None
-alias_named (Gid id) = None
-alias_named (HostName chars quoted) = None
-alias_named (Address addr) = None
-alias_named (Net addr mask) = None
-alias_named (Command path args) = None
+alias_named _ = None
 
 -- the alias names among the members, in order
 abbrev pub names_used : List Member → List (List ℕ)

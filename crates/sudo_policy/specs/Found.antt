@@ -79,12 +79,8 @@ pub record AreFindings (p : Policy) (found : List Finding) : Type 0 where
 
 -- findings of this class are errors
 abbrev pub is_error : Class → Bool
-is_error Redefined = true
-is_error Undefined = true
-is_error Cycle = true
-is_error TooDeep = true
-is_error TooWide = true
 is_error Unused = false
+is_error _ = true
 
 -- one of the findings is an error
 abbrev pub has_error : List Finding → Bool

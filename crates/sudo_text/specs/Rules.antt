@@ -38,39 +38,28 @@ line_kind text =
     else lines.General))))
 
 abbrev pub before_mark : Mark → Before
-before_mark marks.Bang = befores.Opener
 before_mark marks.Equals = befores.EqualSign
-before_mark marks.Comma = befores.Opener
-before_mark marks.Colon = befores.Opener
-before_mark marks.LeftParen = befores.Opener
 before_mark marks.RightParen = befores.Other
-before_mark marks.At = befores.Opener
-before_mark marks.Greater = befores.Opener
 before_mark marks.PlusEquals = befores.Assignment
 before_mark marks.MinusEquals = befores.Assignment
+before_mark _ = befores.Opener
 
 -- the class of a token, for the offset after it
 abbrev pub before_of : TokenKind → Before
-before_of (kinds.Word quoted chars) = befores.Other
-before_of (kinds.Command path args) = befores.Other
 before_of (kinds.Mark mark) = before_mark mark
-before_of (kinds.Include folder hash path) = befores.Other
+before_of _ = befores.Other
 
 -- a `#` with a digit after it begins a word or a value after this token
 abbrev pub opens : Before → Bool
-opens befores.Nothing = true
-opens befores.EqualSign = true
 opens befores.Assignment = false
-opens befores.Opener = true
 opens befores.Other = false
+opens _ = true
 
 -- an unquoted word after this token is a value, in a Defaults line
 abbrev pub wants_value : Before → Bool
-wants_value befores.Nothing = false
 wants_value befores.EqualSign = true
 wants_value befores.Assignment = true
-wants_value befores.Opener = false
-wants_value befores.Other = false
+wants_value _ = false
 
 abbrev pub is_defaults : LineKind → Bool
 is_defaults lines.General = false
@@ -103,16 +92,9 @@ mark_at kind text at =
     else None))))))
 
 abbrev pub mark_len : Mark → ℕ
-mark_len marks.Bang = 1
-mark_len marks.Equals = 1
-mark_len marks.Comma = 1
-mark_len marks.Colon = 1
-mark_len marks.LeftParen = 1
-mark_len marks.RightParen = 1
-mark_len marks.At = 1
-mark_len marks.Greater = 1
 mark_len marks.PlusEquals = 2
 mark_len marks.MinusEquals = 2
+mark_len _ = 1
 
 -- the unquoted word at an offset is `sudoedit`, without escapes: its eight bytes, and then the end of the word
 unfoldable pub is_sudoedit : LineKind → List ℕ → ℕ → Bool

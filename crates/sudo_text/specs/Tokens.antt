@@ -107,14 +107,8 @@ unfoldable pub token_end : LineKind → Before → List ℕ → ℕ → TokenKin
 token_end kind before text at token = token_by (rule_at kind before text at) kind text at token
 
 abbrev pub is_comment : Rule → Bool
-is_comment (rules.Include folder hash) = false
-is_comment rules.Keyword = false
 is_comment rules.Comment = true
-is_comment rules.Quoted = false
-is_comment rules.Value = false
-is_comment rules.Command = false
-is_comment (rules.Mark mark) = false
-is_comment rules.Word = false
+is_comment _ = false
 
 -- a comment that continues over a join: one of the joins lies after its `#`
 abbrev pub has_join_after : List ℕ → ℕ → Bool
