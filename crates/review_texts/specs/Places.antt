@@ -16,7 +16,7 @@ use Rattle.sudo_grammar.specs.declared.policy.EntryBody.{EntryBody}
 use Rattle.sudo_grammar.specs.declared.policy.EntryBody.TheVariants as entries
 use Rattle.sudo_grammar.specs.declared.fault.ParseFault.TheVariants as faults
 use Rattle.sudo_grammar.specs.declared.fault.Unsupported.{Unsupported}
-use Rattle.sudo_grammar.specs.States.{Room}
+use Rattle.sudo_grammar.specs.Faults.{Room}
 use Rattle.sudo_parser.specs.Parsed.{room_after, IsEntryOf, IsGrammarFaultOf}
 use Rattle.review_texts.specs.Options.{name_end, spells_option}
 use Rattle.review_texts.specs.Digests.{spells_digest}

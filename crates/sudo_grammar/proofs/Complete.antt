@@ -24,28 +24,28 @@ use Rattle.sudo_grammar.specs.declared.policy.CommandSpec.{CommandSpec}
 use Rattle.sudo_grammar.specs.declared.policy.Section.{Section}
 use Rattle.sudo_text.specs.declared.token.Ch.{Ch}
 use Rattle.sudo_grammar.specs.declared.fault.Refusal.{Refusal}
-use Rattle.sudo_grammar.specs.Members.{plain_atom, other_atom}
+use Rattle.sudo_grammar.specs.Members.{plain_atom, other_atom, atom_of}
 use Rattle.sudo_grammar.specs.Openings.{is_word, operator_of, is_direct}
 use Rattle.sudo_grammar.specs.declared.policy.Binding.{Binding}
 use Rattle.sudo_grammar.specs.declared.policy.Binding.TheVariants as bindings
 use Rattle.sudo_grammar.specs.declared.policy.Parameter.{Parameter}
 use Rattle.sudo_grammar.specs.declared.policy.Parameter.TheVariants as parameters
 use Rattle.sudo_grammar.specs.declared.policy.Operator.{Operator}
-use Rattle.sudo_grammar.specs.Members.{atom_of}
 use Rattle.sudo_grammar.specs.Forms.{binding_mark, binding, the_word, parameter, more_parameters, parameter_list}
 use Rattle.sudo_grammar.specs.Forms.{defaults, rule, include, groups, runas, optional, spec, more_specs, specs}
 use Rattle.sudo_grammar.specs.Forms.{more_sections, sections, last_as_tag, tag, tags, ◌▸◌, one, mark, bangs, member}
 use Rattle.sudo_grammar.specs.Forms.{item, more_items, list, name, definition, more_definitions, definition_list}
 use Rattle.sudo_grammar.specs.Forms.{keyword_form, Writes}
-use Rattle.sudo_grammar.specs.States.{Binds, DefaultsStart, AtParameter, AfterSwitch, AtValue, AfterValue}
-use Rattle.sudo_grammar.specs.States.{at_parameter, at_value, at_operator, after_switch, after_value, at_binding}
-use Rattle.sudo_grammar.specs.States.{after_defaults, bound_to, Included, Users, Hosts, RunasUsers, RunasGroups}
-use Rattle.sudo_grammar.specs.States.{RunasStart, GroupsStart, after_runas, at_runas, at_groups, after_item, Granting}
-use Rattle.sudo_grammar.specs.States.{Command, AfterCommand, at_command, command_state, after_command, after_colon}
-use Rattle.sudo_grammar.specs.States.{Purpose, Defines, kind_for, State, Start, AliasName, AfterName, Item, AfterItem}
-use Rattle.sudo_grammar.specs.States.{Room, at_item, member_state, after_member, at_alias_name, at_start, step}
-use Rattle.sudo_grammar.specs.Reading.{reading}
-use Rattle.sudo_grammar.specs.Faults.{HasRoom}
+use Rattle.sudo_grammar.specs.Body.States.{Binds, DefaultsStart, AtParameter, AfterSwitch, AtValue, AfterValue}
+use Rattle.sudo_grammar.specs.Body.States.{at_parameter, at_value, at_operator, after_switch, after_value, at_binding}
+use Rattle.sudo_grammar.specs.Body.States.{after_defaults, bound_to, Included, Users, Hosts, RunasUsers, RunasGroups}
+use Rattle.sudo_grammar.specs.Body.States.{RunasStart, GroupsStart, after_runas, at_runas, at_groups, after_item}
+use Rattle.sudo_grammar.specs.Body.States.{Granting, Command, AfterCommand, at_command, command_state, after_command}
+use Rattle.sudo_grammar.specs.Body.States.{after_colon, Purpose, Defines, kind_for, State, Start, AliasName}
+use Rattle.sudo_grammar.specs.Body.States.{AfterName, Item, AfterItem, at_item, member_state, after_member}
+use Rattle.sudo_grammar.specs.Body.States.{at_alias_name, at_start, step}
+use Rattle.sudo_grammar.specs.Faults.{Room, HasRoom}
+use Rattle.sudo_grammar.specs.Body.Reading.{reading}
 
 -- a token that stands for an atom is no exclamation mark
 pub at_item-member : (p : Purpose) (n : ℕ) (d : List Member) (t : Token) (kind : TokenKind) (a : Atom)

@@ -1,5 +1,5 @@
--- The expected token of a fault could have stood there.
-use Rattle.std.proofs.Common.{cond, ◌≡◌, ℕ, suc, ◌+◌, ◌<◌, List, [], ◌∷◌, ◌++◌, length, refl, ap, sym, ◌∙◌, subst}
+-- The token that a state expects could stand there.
+use Rattle.std.proofs.Common.{cond, inl, inr, ◌⊎◌, ◌≡◌, ℕ, suc, ◌+◌, ◌<◌, List, [], ◌∷◌, ◌++◌, length, refl, ap, sym, ◌∙◌, subst}
 use Rattle.std.proofs.Common.{append-nil, arith, lt-ltb, Option, None, Some, Result, Ok, Err, true, false, Bool}
 use Rattle.std.specs.Prelude.{codes, is_some, ◌&&◌}
 use Rattle.std.specs.Str.{bytes_eq}
@@ -13,6 +13,8 @@ use Rattle.sudo_grammar.specs.declared.kind.Kind.TheVariants as kinds
 use Rattle.sudo_grammar.specs.declared.kind.Atom.{Atom}
 use Rattle.sudo_grammar.specs.declared.kind.Member.{Member}
 use Rattle.sudo_grammar.specs.declared.policy.Definition.{Definition}
+use Rattle.sudo_grammar.specs.declared.policy.Binding.{Binding}
+use Rattle.sudo_grammar.specs.declared.policy.Parameter.{Parameter}
 use Rattle.sudo_grammar.specs.declared.policy.EntryBody.{EntryBody}
 use Rattle.sudo_grammar.specs.declared.fault.Expected.{Expected}
 use Rattle.sudo_grammar.specs.declared.fault.Expected.TheVariants as wants
@@ -22,28 +24,29 @@ use Rattle.sudo_grammar.specs.declared.fault.Unsupported.TheVariants as forms
 use Rattle.sudo_grammar.specs.Words.{name_of, plain_word, kind_of_keyword, is_digest_name}
 use Rattle.sudo_grammar.specs.Members.{atom_of, expected_in}
 use Rattle.sudo_grammar.specs.Openings.{Opening, Keyword, DefaultsLine, Directive, BadDirective, Other, opening_of}
-use Rattle.sudo_grammar.specs.Openings.{plain_opening, is_direct, is_word, is_percent, word_passes}
-use Rattle.sudo_grammar.specs.States.{Purpose, Defines, Users, Hosts, RunasUsers, RunasGroups, Binds, kind_for}
-use Rattle.sudo_grammar.specs.States.{bound_to, Room, State, Start, AliasName, AfterName, Item, AfterItem, Command}
-use Rattle.sudo_grammar.specs.States.{AfterCommand, RunasStart, GroupsStart, DefaultsStart, AtParameter, AfterSwitch}
-use Rattle.sudo_grammar.specs.States.{AtValue, AfterValue, Included, at_start, after_item, after_name, after_defaults}
-use Rattle.sudo_grammar.specs.States.{at_alias_name, step, entry_after_list, state_after}
-use Rattle.sudo_grammar.specs.Refusals.{is_next, is_next_at, with_next, refused_atom, refused_member, is_option}
-use Rattle.sudo_grammar.specs.Refusals.{or_option, last_command, refused_name, refused_start, refusal_after_list}
-use Rattle.sudo_grammar.specs.Refusals.{refused_at}
-use Rattle.sudo_grammar.specs.Reading.{entry_or_stop, reading, Stop}
-use Rattle.sudo_grammar.specs.Faults.{BeginsEntry, IsGrammarFault}
-use Rattle.sudo_grammar.specs.Standing.{MembersStand, CanStand}
+use Rattle.sudo_grammar.specs.Openings.{plain_opening, is_word, is_percent, word_passes}
+use Rattle.sudo_grammar.specs.Body.States.{Purpose, Defines, Users, Hosts, RunasUsers, RunasGroups, Binds, kind_for}
+use Rattle.sudo_grammar.specs.Body.States.{bound_to, State, Start, AliasName, AfterName, Item, AfterItem, Command}
+use Rattle.sudo_grammar.specs.Body.States.{AfterCommand, RunasStart, GroupsStart, DefaultsStart, AtParameter}
+use Rattle.sudo_grammar.specs.Body.States.{AfterSwitch, AtValue, AfterValue, Included, at_start, after_item}
+use Rattle.sudo_grammar.specs.Body.States.{after_name, after_defaults, at_alias_name, at_parameter, step}
+use Rattle.sudo_grammar.specs.Body.States.{entry_after_list, state_after}
+use Rattle.sudo_grammar.specs.Faults.{Room}
+use Rattle.sudo_grammar.specs.Refusals.{is_next, is_next_at, with_next, refused_atom, refused_member, refused_name}
+use Rattle.sudo_grammar.specs.Refusals.{refused_start}
+use Rattle.sudo_grammar.specs.Body.Refused.{is_option, or_option, last_command, refusal_after_list, refused_at}
+use Rattle.sudo_grammar.specs.Body.Reading.{entry_or_stop, reading}
+use Rattle.sudo_grammar.specs.Standing.{BeginsEntry, MembersStand, CanStand}
 use Rattle.sudo_grammar.proofs.Complete.{at_item-takes, at_command-takes, hosts-first, runas-first, groups-first}
 use Rattle.sudo_grammar.proofs.Complete.{binds-first, word-parameter, word-value}
 use Rattle.sudo_grammar.proofs.Sound.{sound}
 use Rattle.sudo_grammar.proofs.Stops.{Covers, state_after-wide, begins, reading-front}
-use Rattle.sudo_grammar.proofs.OneFault.{state_after-step}
+use Rattle.sudo_grammar.proofs.Steps.{state_after-step}
 use Rattle.sudo_grammar.proofs.SyntaxWords.{syntax_word}
 
 -- which word a refusal has
 
-syntax_injective : (x y : Expected) → refusals.Syntax x ≡ refusals.Syntax y → x ≡ y
+pub syntax_injective : (x y : Expected) → refusals.Syntax x ≡ refusals.Syntax y → x ≡ y
 syntax_injective x y h = cc
 
 with-next-word : (kind : Kind) (t : Token) (ts : List Token) (r : Refusal) (x : Expected)
@@ -65,7 +68,7 @@ with-next-word kinds.Runas t ts r x h = go (is_percent t.kind && is_next_at t.en
     go true h = cc
     go false h = h
 
-member-word : (kind : Kind) (ts : List Token) (x : Expected) → refused_member kind ts ≡ refusals.Syntax x → x ≡ expected_in kind
+pub member-word : (kind : Kind) (ts : List Token) (x : Expected) → refused_member kind ts ≡ refusals.Syntax x → x ≡ expected_in kind
 member-word kind [] x h = sym (syntax_injective (expected_in kind) x h)
 member-word kind (t ∷ ts) x h = go (atom_of kind t.kind) refl h
   where
@@ -81,7 +84,7 @@ no-option m ts r x h = go (is_option m ts) h
     go true h = cc
     go false h = h
 
-name-word : (ts : List Token) (x : Expected) → refused_name ts ≡ refusals.Syntax x → wants.AliasName ≡ x
+pub name-word : (ts : List Token) (x : Expected) → refused_name ts ≡ refusals.Syntax x → wants.AliasName ≡ x
 name-word [] x h = syntax_injective wants.AliasName x h
 name-word (t ∷ ts) x h = go (is_some (name_of t.kind)) h
   where
@@ -91,7 +94,7 @@ name-word (t ∷ ts) x h = go (is_some (name_of t.kind)) h
 
 -- what may stand
 
-members-stand : (kind : Kind) (front : List Token) → MembersStand kind front → CanStand (expected_in kind) front
+pub members-stand : (kind : Kind) (front : List Token) → MembersStand kind front → CanStand (expected_in kind) front
 members-stand kinds.User front h = (kinds.User, ((λ is. cc), h))
 members-stand kinds.Runas front h = (kinds.Runas, ((λ is. cc), h))
 members-stand kinds.Host front h = (kinds.Host, ((λ is. cc), h))
@@ -124,12 +127,18 @@ start-takes t a (Directive folder hash path) is h = (Included folder hash path, 
 start-takes t a (BadDirective path) is h = absurd (user-first t.kind a path h is)
 start-takes t a Other is h = (AfterItem Users (record { bangs = 0; token = t; atom = a } ∷ []), at_item-takes Users 0 [] t a h)
 
+-- a word or an exclamation mark begins a parameter
+parameter-begins : (b : Option Binding) (d : List Parameter) (n : ℕ) (t : Token)
+    → (is_word t.kind ≡ true) ⊎ (t.kind ≡ tokens.Mark marks.Bang) → (next : State) × (at_parameter b d n t t.kind ≡ Some next)
+parameter-begins b d n t (inl word) = (AfterSwitch b d n t, word-parameter b d n t t.kind word)
+parameter-begins b d n t (inr bang) = (AtParameter b d (suc n), ap (at_parameter b d n t) bang)
+
 module _ (room : Room) (front : List Token) where
-  step-begins : (state next : State) (t : Token) → state_after room Start front ≡ Some state → step room state t ≡ Some next
+  pub step-begins : (state next : State) (t : Token) → state_after room Start front ≡ Some state → step room state t ≡ Some next
       → BeginsEntry (front ++ t ∷ [])
   step-begins state next t reached is = begins room (front ++ t ∷ []) next (state_after-step room Start state next front t reached is)
 
-  may-end : (state : State) (e : EntryBody) → state_after room Start front ≡ Some state → entry_after_list state ≡ Some e
+  pub may-end : (state : State) (e : EntryBody) → state_after room Start front ≡ Some state → entry_after_list state ≡ Some e
       → CanStand wants.EndOfLine front
   may-end state e reached is = (
     e,
@@ -137,7 +146,7 @@ module _ (room : Room) (front : List Token) where
         (ap (reading room Start) (sym (append-nil front)) ∙ reading-front room Start state front [] reached ∙ ap (entry_or_stop state) is),
   )
 
-  name-stands : (k : Kind) (d : List Definition) → state_after room Start front ≡ Some (AliasName k d)
+  pub name-stands : (k : Kind) (d : List Definition) → state_after room Start front ≡ Some (AliasName k d)
       → CanStand wants.AliasName front
   name-stands k d reached t w named =
       let wide : Room = λ k. room k + suc (length d) in
@@ -149,7 +158,7 @@ module _ (room : Room) (front : List Token) where
       (state_after-step wide Start (AliasName k d) (AfterName k d w) front t (state_after-wide room wide covers Start
       (AliasName k d) front reached) taken)
 
-  start-stands : (ts : List Token) (o : Opening) (x : Expected) → state_after room Start front ≡ Some Start
+  pub start-stands : (ts : List Token) (o : Opening) (x : Expected) → state_after room Start front ≡ Some Start
       → refused_start ts o ≡ refusals.Syntax x → CanStand x front
   start-stands ts o x reached h = go o h
     where
@@ -179,7 +188,7 @@ module _ (room : Room) (front : List Token) where
   fixed : (w x : Expected) → refusals.Syntax w ≡ refusals.Syntax x → CanStand w front → CanStand x front
   fixed w x h stands = subst (λ y. CanStand y front) (syntax_injective w x h) stands
 
-  after-stands : (p : Purpose) (d : List Member) (ts : List Token) (x : Expected)
+  pub after-stands : (p : Purpose) (d : List Member) (ts : List Token) (x : Expected)
       → state_after room Start front ≡ Some (AfterItem p d) → refusal_after_list p ts ≡ refusals.Syntax x → CanStand x front
   after-stands (Defines k done w) d ts x reached h = fixed wants.EndOfLine x h (may-end (AfterItem (Defines k done w) d) _ reached refl)
   after-stands Users d ts x reached h = member-stands kinds.Host ts x h
@@ -190,11 +199,15 @@ module _ (room : Room) (front : List Token) where
       (λ t is. step-begins (AfterItem (RunasUsers g) d) _ t reached (ap (after_item (RunasUsers g) d t) is))
   after-stands (RunasGroups g us) d ts x reached h = fixed wants.RightParen x h
       (λ t is. step-begins (AfterItem (RunasGroups g us) d) _ t reached (ap (after_item (RunasGroups g us) d t) is))
-  after-stands (Binds k) d ts x reached h = fixed wants.Parameter x h
-      (λ t word apart. step-begins (AfterItem (Binds k) d) _ t reached
-      (binds-first k d t _ t.kind (word-parameter (Some (bound_to k d)) [] 0 t t.kind word)))
+  after-stands (Binds k) d ts x reached h = fixed wants.Parameter x h stands
+    where
+      stands : CanStand wants.Parameter front
+      stands t begun apart = go (parameter-begins (Some (bound_to k d)) [] 0 t begun)
+        where
+          go : (next : State) × (at_parameter (Some (bound_to k d)) [] 0 t t.kind ≡ Some next) → BeginsEntry (front ++ t ∷ [])
+          go (next, is) = step-begins (AfterItem (Binds k) d) next t reached (binds-first k d t next t.kind is)
 
-  state-stands : (state : State) (ts : List Token) (x : Expected) → state_after room Start front ≡ Some state
+  pub state-stands : (state : State) (ts : List Token) (x : Expected) → state_after room Start front ≡ Some state
       → refused_at state ts ≡ refusals.Syntax x → CanStand x front
   state-stands Start [] x reached h = start-stands [] Other x reached h
   state-stands Start (t ∷ ts) x reached h = start-stands (t ∷ ts) (opening_of t.kind) x reached h
@@ -215,10 +228,20 @@ module _ (room : Room) (front : List Token) where
   state-stands (GroupsStart g us) ts x reached h = member-stands kinds.Runas ts x h
       (λ t a is. step-begins (GroupsStart g us) _ t reached
       (groups-first room g us t _ t.kind refl (at_item-takes (RunasGroups g us) 0 [] t a is)))
-  state-stands DefaultsStart ts x reached h = fixed wants.Parameter x h
-      (λ t word apart. step-begins DefaultsStart _ t reached (ap (λ b. after_defaults b t) apart ∙ word-parameter None [] 0 t t.kind word))
-  state-stands (AtParameter b d n) ts x reached h = fixed wants.Parameter x h
-      (λ t word apart. step-begins (AtParameter b d n) _ t reached (word-parameter b d n t t.kind word))
+  state-stands DefaultsStart ts x reached h = fixed wants.Parameter x h stands
+    where
+      stands : CanStand wants.Parameter front
+      stands t begun apart = go (parameter-begins None [] 0 t begun)
+        where
+          go : (next : State) × (at_parameter None [] 0 t t.kind ≡ Some next) → BeginsEntry (front ++ t ∷ [])
+          go (next, is) = step-begins DefaultsStart next t reached (ap (λ b. after_defaults b t) apart ∙ is)
+  state-stands (AtParameter b d n) ts x reached h = fixed wants.Parameter x h stands
+    where
+      stands : CanStand wants.Parameter front
+      stands t begun apart = go (parameter-begins b d n t begun)
+        where
+          go : (next : State) × (at_parameter b d n t t.kind ≡ Some next) → BeginsEntry (front ++ t ∷ [])
+          go (next, is) = step-begins (AtParameter b d n) next t reached is
   state-stands (AfterSwitch b d n name) ts x reached h =
       fixed wants.EndOfLine x h (may-end (AfterSwitch b d n name) _ reached refl)
   state-stands (AtValue b d name operator) ts x reached h = fixed wants.Value x h
@@ -226,7 +249,3 @@ module _ (room : Room) (front : List Token) where
   state-stands (AfterValue b d) ts x reached h = fixed wants.EndOfLine x h (may-end (AfterValue b d) _ reached refl)
   state-stands (Included folder hash path) ts x reached h =
       fixed wants.EndOfLine x h (may-end (Included folder hash path) _ reached refl)
-
-pub stands : (room : Room) (ts : List Token) (stop : Stop) (f : IsGrammarFault room ts stop) (x : Expected)
-    → stop.refusal ≡ refusals.Syntax x → CanStand x f.front
-stands room ts stop f x h = state-stands room f.front f.state stop.rest x f.reached (sym f.refusal ∙ h)

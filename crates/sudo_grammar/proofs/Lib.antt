@@ -3,7 +3,12 @@ pub mod Unique
 pub mod Sound
 pub mod Limits
 pub mod Stops
+pub mod Steps
+pub mod TooMany
 pub mod OneFault
 pub mod Vectors
 pub mod SyntaxWords
 pub mod ExpectedTokens
+pub mod LastTokens
+pub mod FirstExpected
+pub mod RefusedStates

@@ -7,9 +7,9 @@ use Rattle.sudo_grammar.specs.declared.policy.Definition.{Definition}
 use Rattle.sudo_grammar.specs.declared.policy.EntryBody.{EntryBody}
 use Rattle.sudo_grammar.specs.declared.policy.EntryBody.TheVariants as entries
 use Rattle.sudo_grammar.specs.Forms.{◌▸◌, name, definition, more_definitions, Writes}
-use Rattle.sudo_grammar.specs.States.{Room, State, Start, AliasName, AfterName, at_alias_name, step}
-use Rattle.sudo_grammar.specs.Reading.{reading, stop_at, Stop}
-use Rattle.sudo_grammar.specs.Faults.{HasRoom}
+use Rattle.sudo_grammar.specs.Faults.{Room, Stop, HasRoom}
+use Rattle.sudo_grammar.specs.Body.States.{State, Start, AliasName, AfterName, at_alias_name, step}
+use Rattle.sudo_grammar.specs.Body.Reading.{reading, stop_at}
 use Rattle.sudo_grammar.proofs.Complete.{definition-read, colon-read, keyword-read}
 
 -- where no step leads on, reading stops

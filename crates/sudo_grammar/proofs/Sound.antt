@@ -28,17 +28,18 @@ use Rattle.sudo_grammar.specs.Members.{atom_of}
 use Rattle.sudo_grammar.specs.Openings.{Opening, Keyword, DefaultsLine, Directive, BadDirective, Other, opening_of}
 use Rattle.sudo_grammar.specs.Openings.{is_direct, kind_of_mark, is_word, operator_of}
 use Rattle.sudo_grammar.specs.Forms.{mark, bangs, list, spec, binding, parameter, as_tag, last_as_tag, Writes}
-use Rattle.sudo_grammar.specs.States.{Granting, Purpose, Defines, Users, Hosts, RunasUsers, RunasGroups, Binds}
-use Rattle.sudo_grammar.specs.States.{kind_for, bound_to, closed_section, Room, State, Start, AliasName, AfterName}
-use Rattle.sudo_grammar.specs.States.{Item, AfterItem, Command, AfterCommand, RunasStart, GroupsStart, DefaultsStart}
-use Rattle.sudo_grammar.specs.States.{AtParameter, AfterSwitch, AtValue, AfterValue, Included, at_item, member_state}
-use Rattle.sudo_grammar.specs.States.{after_item, after_list, after_name, at_alias_name, at_command, command_state}
-use Rattle.sudo_grammar.specs.States.{at_paren, after_command, after_colon, at_runas, at_groups, at_binding}
-use Rattle.sudo_grammar.specs.States.{after_defaults, at_parameter, at_operator, after_switch, at_value, after_value}
-use Rattle.sudo_grammar.specs.States.{at_start, step, entry_after_list}
-use Rattle.sudo_grammar.specs.Reading.{entry_or_stop, reading, stop_at, Stop}
-use Rattle.sudo_grammar.specs.Remaining.{AfterSpec, AtCommand, AtTags, AtSpec, AtGroups, AfterList, InList, AtItem}
-use Rattle.sudo_grammar.specs.Remaining.{parameter_left, Completes}
+use Rattle.sudo_grammar.specs.Body.States.{Granting, Purpose, Defines, Users, Hosts, RunasUsers, RunasGroups, Binds}
+use Rattle.sudo_grammar.specs.Body.States.{kind_for, bound_to, closed_section, State, Start, AliasName, AfterName}
+use Rattle.sudo_grammar.specs.Body.States.{Item, AfterItem, Command, AfterCommand, RunasStart, GroupsStart}
+use Rattle.sudo_grammar.specs.Body.States.{DefaultsStart, AtParameter, AfterSwitch, AtValue, AfterValue, Included}
+use Rattle.sudo_grammar.specs.Body.States.{at_item, member_state, after_item, after_list, after_name, at_alias_name}
+use Rattle.sudo_grammar.specs.Body.States.{at_command, command_state, at_paren, after_command, after_colon, at_runas}
+use Rattle.sudo_grammar.specs.Body.States.{at_groups, at_binding, after_defaults, at_parameter, at_operator}
+use Rattle.sudo_grammar.specs.Body.States.{after_switch, at_value, after_value, at_start, step, entry_after_list}
+use Rattle.sudo_grammar.specs.Faults.{Room, Stop}
+use Rattle.sudo_grammar.specs.Body.Reading.{entry_or_stop, reading, stop_at}
+use Rattle.sudo_grammar.specs.Body.Remaining.{AfterSpec, AtCommand, AtTags, AtSpec, AtGroups, AfterList, InList}
+use Rattle.sudo_grammar.specs.Body.Remaining.{AtItem, parameter_left, Completes}
 
 pub ok_injective : {A B : Type 0} {x y : A} → ◌≡◌ {A = Result A B} (Ok x) (Ok y) → x ≡ y
 ok_injective h = cc

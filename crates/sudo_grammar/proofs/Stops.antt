@@ -1,6 +1,5 @@
--- If a line is no entry, the reading stops at its grammar fault. From each state a line can continue, so that the
--- tokens up to it begin a form; and no form begins with a further token that no step takes, since reading stops there
--- whatever follows.
+-- Where the reading of a line stops. From each state a line can continue, so that the tokens up to it begin a form; and no
+-- form begins with a further token that no step takes, since reading stops there whatever follows.
 use Rattle.std.specs.Prelude.{codes, map}
 use Rattle.std.proofs.Common.{cond, inl, inr, ◌⊎◌, ◌≡◌, ℕ, suc, ◌+◌, ◌≤◌, ◌<◌, List, [], ◌∷◌, ◌++◌, length, refl, ap}
 use Rattle.std.proofs.Common.{sym, ◌∙◌, subst, append_assoc, append-nil, arith, ltb, ltb-true, lt-ltb, ltb-false}
@@ -17,28 +16,29 @@ use Rattle.sudo_grammar.specs.declared.policy.EntryBody.{EntryBody}
 use Rattle.sudo_grammar.specs.declared.policy.EntryBody.TheVariants as entries
 use Rattle.sudo_grammar.specs.Words.{name_of}
 use Rattle.sudo_grammar.specs.Forms.{Writes}
-use Rattle.sudo_grammar.specs.States.{Purpose, Defines, Users, Hosts, RunasUsers, RunasGroups, Binds, State, Start}
-use Rattle.sudo_grammar.specs.States.{AliasName, AfterName, Item, AfterItem, Command, AfterCommand, RunasStart}
-use Rattle.sudo_grammar.specs.States.{GroupsStart, DefaultsStart, AtParameter, AfterSwitch, AtValue, AfterValue}
-use Rattle.sudo_grammar.specs.States.{Included, Room, at_alias_name, step, entry_after_list, state_after}
-use Rattle.sudo_grammar.specs.Refusals.{refused_at}
-use Rattle.sudo_grammar.specs.Reading.{entry_or_stop, reading, stop_at, Stop}
-use Rattle.sudo_grammar.specs.Remaining.{Completes}
-use Rattle.sudo_grammar.specs.Faults.{HasRoom, BeginsEntry, IsStuck, IsGrammarFault}
+use Rattle.sudo_grammar.specs.Body.States.{Purpose, Defines, Users, Hosts, RunasUsers, RunasGroups, Binds, State}
+use Rattle.sudo_grammar.specs.Body.States.{Start, AliasName, AfterName, Item, AfterItem, Command, AfterCommand}
+use Rattle.sudo_grammar.specs.Body.States.{RunasStart, GroupsStart, DefaultsStart, AtParameter, AfterSwitch, AtValue}
+use Rattle.sudo_grammar.specs.Body.States.{AfterValue, Included, at_alias_name, step, entry_after_list, state_after}
+use Rattle.sudo_grammar.specs.Faults.{Room, Stop, HasRoom}
+use Rattle.sudo_grammar.specs.Body.Refused.{refused_at}
+use Rattle.sudo_grammar.specs.Body.Reading.{entry_or_stop, reading, stop_at}
+use Rattle.sudo_grammar.specs.Body.Remaining.{Completes}
+use Rattle.sudo_grammar.specs.Standing.{BeginsEntry}
 use Rattle.sudo_grammar.proofs.Complete.{entry-read, reading-step}
 use Rattle.sudo_grammar.proofs.Unique.{count}
 use Rattle.sudo_grammar.proofs.Limits.{reading-stops}
 use Rattle.sudo_grammar.proofs.Sound.{backward, sound}
 
 -- `ALL`
-abbrev all : Token
+abbrev pub all : Token
 all = record { kind = tokens.Word false (map (λ b. record { byte = b; escaped = false }) (codes "ALL")); start = 0; end = 3 }
 
 -- `A`
-abbrev a : Token
+abbrev pub a : Token
 a = record { kind = tokens.Word false (record { byte = 65; escaped = false } ∷ []); start = 0; end = 1 }
 
-abbrev the_mark : Mark → Token
+abbrev pub the_mark : Mark → Token
 the_mark m = record { kind = tokens.Mark m; start = 0; end = 1 }
 
 -- tokens by which a line can go on to its end, after a list and from a state
@@ -182,10 +182,10 @@ state_after-wide room wide covers state q (t ∷ ts) h =
     go None is h hyp = cc
 
 -- no room makes the step
-abbrev NoStep : Room → State → Token → Type 0
+abbrev pub NoStep : Room → State → Token → Type 0
 NoStep room state t = (wide : Room) → Covers room wide → step wide state t ≡ None
 
-name-none : (room : Room) (k : Kind) (d : List Definition) (w : Option (List ℕ))
+pub name-none : (room : Room) (k : Kind) (d : List Definition) (w : Option (List ℕ))
     → at_alias_name room k d w ≡ None
     → ((wide : Room) → Covers room wide → at_alias_name wide k d w ≡ None)
     ⊎ ((v : List ℕ) × ((w ≡ Some v) × (room k ≤ length d)))
@@ -216,7 +216,7 @@ form-front room state front more e reached w =
     ∙ entry-read wide e (front ++ more) w (has_room room e)
 
 -- no form begins with a front and a token that no step takes
-dead : (room : Room) (state : State) (t : Token) (front : List Token) → state_after room Start front ≡ Some state
+pub dead : (room : Room) (state : State) (t : Token) (front : List Token) → state_after room Start front ≡ Some state
     → NoStep room state t → BeginsEntry (front ++ t ∷ []) → ⊥
 dead room state t front reached none (e, rest, w) =
     let covers : Covers room (with_room room e) = λ k. omega arith in
@@ -228,7 +228,7 @@ dead room state t front reached none (e, rest, w) =
     cc
 
 -- nor is a front a form where the line can't end
-dead_end : (room : Room) (state : State) (front : List Token) → state_after room Start front ≡ Some state
+pub dead_end : (room : Room) (state : State) (front : List Token) → state_after room Start front ≡ Some state
     → entry_after_list state ≡ None → (e : EntryBody) → Writes e front → ⊥
 dead_end room state front reached none e w =
     let read : reading (with_room room e) state [] ≡ Ok e =
@@ -237,30 +237,19 @@ dead_end room state front reached none e w =
     let same : ◌≡◌ {A = Result EntryBody Stop} (Ok e) (Err (stop_at state [])) = sym read ∙ stops in
     cc
 
-stuck : (room : Room) (state : State) (t : Token) (front ts : List Token) → state_after room Start front ≡ Some state
-    → step room state t ≡ None → IsStuck room front (t ∷ ts)
-stuck room (AliasName k d) t front ts reached none = go (name-none room k d (name_of t.kind) none)
-  where
-    go : ((wide : Room) → Covers room wide → at_alias_name wide k d (name_of t.kind) ≡ None)
-        ⊎ ((v : List ℕ) × ((name_of t.kind ≡ Some v) × (room k ≤ length d)))
-        → IsStuck room front (t ∷ ts)
-    go (inl all) = inl (dead room (AliasName k d) t front reached all)
-    go (inr (v, (is, full))) = inr (k, (d, (v, (reached, is, full))))
-stuck room state t front ts reached none = inl (dead room state t front reached (λ wide covers. none))
-
 -- no step leads on, or the line can't end
 abbrev pub IsHalted : Room → State → List Token → Type 0
 IsHalted room state [] = entry_after_list state ≡ None
 IsHalted room state (t ∷ ts) = step room state t ≡ None
 
 -- Reading stops at a state that the tokens before lead to, and from which no step leads on.
-record Halts (room : Room) (state : State) (ts : List Token) (stop : Stop) : Type 0 where
-  front : List Token
-  whole : ts ≡ front ++ stop.rest
-  last : State
-  reached : state_after room state front ≡ Some last
-  refusal : stop.refusal ≡ refused_at last stop.rest
-  halted : IsHalted room last stop.rest
+pub record Halts (room : Room) (state : State) (ts : List Token) (stop : Stop) : Type 0 where
+  pub front : List Token
+  pub whole : ts ≡ front ++ stop.rest
+  pub last : State
+  pub reached : state_after room state front ≡ Some last
+  pub refusal : stop.refusal ≡ refused_at last stop.rest
+  pub halted : IsHalted room last stop.rest
 
 pub err_injective : {A B : Type 0} {x y : B} → ◌≡◌ {A = Result A B} (Err x) (Err y) → x ≡ y
 err_injective h = cc
@@ -277,7 +266,7 @@ halts-back room state next t ts stop is h = record {
   halted = h.halted;
 }
 
-halts : (room : Room) (state : State) (ts : List Token) (stop : Stop) → reading room state ts ≡ Err stop
+pub halts : (room : Room) (state : State) (ts : List Token) (stop : Stop) → reading room state ts ≡ Err stop
     → Halts room state ts stop
 halts room state [] stop h = go (entry_after_list state) refl h
   where
@@ -294,23 +283,3 @@ halts room state (t ∷ ts) stop h = go (step room state t) refl h (λ next. hal
     go (Some next) is h hyp = halts-back room state next t ts stop is (hyp next h)
     go None is h hyp = subst (λ x. Halts room state (t ∷ ts) x) (err_injective h)
         (record { front = []; whole = refl; last = state; reached = refl; refusal = refl; halted = is })
-
-halted-stuck : (room : Room) (front rest : List Token) (state : State) → state_after room Start front ≡ Some state
-    → IsHalted room state rest → IsStuck room front rest
-halted-stuck room front [] state reached none = dead_end room state front reached none
-halted-stuck room front (t ∷ ts) state reached none = stuck room state t front ts reached none
-
-pub leftmost : (room : Room) (ts : List Token) (stop : Stop) → reading room Start ts ≡ Err stop
-    → IsGrammarFault room ts stop
-leftmost room ts stop h = go (halts room Start ts stop h)
-  where
-    go : Halts room Start ts stop → IsGrammarFault room ts stop
-    go x = record {
-      front = x.front;
-      whole = x.whole;
-      begins = begins room x.front x.last x.reached;
-      stuck = halted-stuck room x.front stop.rest x.last x.reached x.halted;
-      state = x.last;
-      reached = x.reached;
-      refusal = x.refusal;
-    }

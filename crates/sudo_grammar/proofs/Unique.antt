@@ -4,9 +4,9 @@ use Rattle.sudo_text.specs.declared.token.Token.{Token}
 use Rattle.sudo_grammar.specs.declared.policy.EntryBody.{EntryBody}
 use Rattle.sudo_grammar.specs.declared.policy.EntryBody.TheVariants as entries
 use Rattle.sudo_grammar.specs.Forms.{Writes}
-use Rattle.sudo_grammar.specs.States.{Start}
-use Rattle.sudo_grammar.specs.Reading.{Stop, reading}
-use Rattle.sudo_grammar.specs.Faults.{HasRoom}
+use Rattle.sudo_grammar.specs.Body.States.{Start}
+use Rattle.sudo_grammar.specs.Faults.{Stop, HasRoom}
+use Rattle.sudo_grammar.specs.Body.Reading.{reading}
 use Rattle.sudo_grammar.proofs.Complete.{entry-read}
 
 -- how many definitions an entry has

@@ -28,8 +28,9 @@ use Rattle.sudo_grammar.specs.declared.fault.Refusal.{Refusal}
 use Rattle.sudo_grammar.specs.declared.fault.Refusal.TheVariants as refusals
 use Rattle.sudo_grammar.specs.Tags.{tag_name}
 use Rattle.sudo_grammar.specs.Words.{tag_of_name}
-use Rattle.sudo_grammar.specs.States.{Room, Start}
-use Rattle.sudo_grammar.specs.Reading.{reading, Stop}
+use Rattle.sudo_grammar.specs.Faults.{Room, Stop}
+use Rattle.sudo_grammar.specs.Body.States.{Start}
+use Rattle.sudo_grammar.specs.Body.Reading.{reading}
 
 abbrev chars : String → List Ch
 chars s = map (λ b. record { byte = b; escaped = false }) (codes s)

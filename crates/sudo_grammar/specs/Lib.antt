@@ -4,10 +4,7 @@ pub mod Words
 pub mod Members
 pub mod Openings
 pub mod Forms
-pub mod States
-pub mod Refusals
-pub mod Reading
-pub mod Remaining
-pub mod Faults
 pub mod Standing
+pub mod Refusals
+pub mod Faults
 pub mod Body

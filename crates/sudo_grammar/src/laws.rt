@@ -5,10 +5,10 @@ ghost use Rattle.sudo_grammar.specs.declared.policy.EntryBody.{EntryBody};
 ghost use Rattle.sudo_grammar.specs.declared.fault.Expected.{Expected};
 ghost use Rattle.sudo_grammar.specs.declared.fault.Refusal.TheVariants.{Syntax};
 ghost use Rattle.sudo_grammar.specs.Forms.{Writes};
-ghost use Rattle.sudo_grammar.specs.States.{Room, State, Start, state_after};
-ghost use Rattle.sudo_grammar.specs.Reading.{Stop, reading};
-ghost use Rattle.sudo_grammar.specs.Remaining.{Completes};
-ghost use Rattle.sudo_grammar.specs.Faults.{HasRoom, WritesWithin, IsGrammarFault};
+ghost use Rattle.sudo_grammar.specs.Faults.{Room, Stop, HasRoom, WritesWithin, IsGrammarFault};
+ghost use Rattle.sudo_grammar.specs.Body.States.{State, Start, state_after};
+ghost use Rattle.sudo_grammar.specs.Body.Reading.{reading};
+ghost use Rattle.sudo_grammar.specs.Body.Remaining.{Completes};
 ghost use Rattle.sudo_grammar.specs.Standing.{CanStand};
 
 /// Each written form of an entry within the limits is read as that entry.
@@ -23,10 +23,13 @@ pub fn what_is_read_is_written()
         → Writes e ts × HasRoom room e }
 {}
 
-/// If a line is no entry, the reading stops at the line's grammar fault.
+/// If a line is no entry, the reading stops at the line's grammar fault; and wherever a line has a grammar fault, its
+/// reading stops there.
 pub fn faults_are_leftmost()
-    ensures { (room : Room) (ts : List Token) (stop : Stop) → reading room Start ts ≡ Err stop
-        → IsGrammarFault room ts stop }
+    ensures is_fault { (room : Room) (ts : List Token) (stop : Stop)
+        → reading room Start ts ≡ Err stop → IsGrammarFault room ts stop }
+    ensures stops { (room : Room) (ts : List Token) (stop : Stop) → IsGrammarFault room ts stop
+        → reading room Start ts ≡ Err stop }
 {}
 
 /// No list of tokens is a written form of two entries.

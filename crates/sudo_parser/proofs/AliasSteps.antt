@@ -14,11 +14,12 @@ use Rattle.sudo_grammar.specs.declared.fault.Refusal.TheVariants as refusals
 use Rattle.sudo_grammar.specs.declared.fault.Unsupported.TheVariants as forms
 use Rattle.sudo_parser.specs.declared.stops.ParserStop.TheVariants as stops
 use Rattle.sudo_parser.specs.Body.Stops.{Stops, IsNotNext}
-use Rattle.sudo_grammar.specs.Reading.{reading}
+use Rattle.sudo_grammar.specs.Body.Reading.{reading}
 use Rattle.sudo_parser.proofs.Steps.{stops_here, stops_same}
 use Rattle.std.proofs.lemmas.Bool.Decides.{nat_tests}
 use Rattle.sudo_grammar.specs.Words.{name_of}
-use Rattle.sudo_grammar.specs.States.{Defines, AliasName, AfterName, AfterItem, Room, at_alias_name, after_item}
+use Rattle.sudo_grammar.specs.Faults.{Room}
+use Rattle.sudo_grammar.specs.Body.States.{Defines, AliasName, AfterName, AfterItem, at_alias_name, after_item}
 use Rattle.sudo_grammar.specs.Refusals.{refused_name}
 use Rattle.sudo_parser.specs.Body.Aliases.{IsFull, StopsInName, ReadsDefinition, ReadsToDefinition}
 use Rattle.sudo_grammar.proofs.Limits.{reading-stops}

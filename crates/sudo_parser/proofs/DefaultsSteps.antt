@@ -12,11 +12,12 @@ use Rattle.sudo_grammar.specs.declared.fault.Refusal.TheVariants as refusals
 use Rattle.sudo_parser.specs.declared.stops.ParserStop.{ParserStop}
 use Rattle.sudo_parser.specs.declared.stops.ParserStop.TheVariants as stops
 use Rattle.sudo_parser.specs.Body.Stops.{Stops, IsNotNext}
-use Rattle.sudo_grammar.specs.Reading.{reading}
+use Rattle.sudo_grammar.specs.Body.Reading.{reading}
 use Rattle.sudo_parser.proofs.Steps.{stops_here, stops_same}
 use Rattle.sudo_grammar.specs.declared.policy.Operator.{Operator}
 use Rattle.sudo_grammar.specs.Openings.{is_word}
-use Rattle.sudo_grammar.specs.States.{AtParameter, AfterSwitch, AtValue, Room, at_parameter, after_switch, at_value}
+use Rattle.sudo_grammar.specs.Faults.{Room}
+use Rattle.sudo_grammar.specs.Body.States.{AtParameter, AfterSwitch, AtValue, at_parameter, after_switch, at_value}
 use Rattle.sudo_parser.specs.Body.Lists.{ReadsBangs}
 use Rattle.sudo_parser.specs.Body.Defaults.{IsWordNext, IsNoWordNext, IsWordMissing, IsOperatorNext, EndsParameter}
 use Rattle.sudo_parser.specs.Body.Defaults.{ReadsParameter, StopsInParameter}

@@ -5,12 +5,11 @@ use Rattle.sudo_text.specs.declared.token.Token.{Token}
 use Rattle.sudo_grammar.specs.declared.policy.EntryBody.{EntryBody}
 use Rattle.sudo_parser.specs.declared.stops.ParserStop.{ParserStop}
 use Rattle.sudo_parser.specs.declared.stops.ParserStop.TheVariants as stops
-use Rattle.sudo_grammar.specs.States.{Room, Start}
-use Rattle.sudo_grammar.specs.Reading.{reading}
-use Rattle.sudo_grammar.specs.Faults.{WritesWithin}
+use Rattle.sudo_grammar.specs.Faults.{Room, WritesWithin}
+use Rattle.sudo_grammar.specs.Body.States.{Start}
+use Rattle.sudo_grammar.specs.Body.Reading.{reading}
 use Rattle.sudo_grammar.proofs.Complete.{entry-read}
-use Rattle.sudo_grammar.proofs.OneFault.{read-within}
-use Rattle.sudo_grammar.proofs.Stops.{leftmost}
+use Rattle.sudo_grammar.proofs.OneFault.{read-within, leftmost}
 use Rattle.sudo_parser.specs.Body.Stops.{GivesEntry}
 use Rattle.sudo_parser.specs.Body.Faults.{HasGrammarFault}
 

@@ -7,8 +7,7 @@ use Rattle.sudo_text.specs.Tokens.{spells}
 use Rattle.sudo_grammar.specs.declared.fault.Refusal.{Refusal}
 use Rattle.sudo_grammar.specs.declared.fault.ParseFault.{ParseFault}
 use Rattle.sudo_parser.specs.declared.stops.ParserStop.TheVariants as stops
-use Rattle.sudo_grammar.specs.States.{Room}
-use Rattle.sudo_grammar.specs.Faults.{WritesWithin}
+use Rattle.sudo_grammar.specs.Faults.{Room, WritesWithin}
 use Rattle.sudo_parser.specs.Body.Faults.{HasGrammarFault}
 use Rattle.sudo_parser.specs.Parsed.{column, fault_at, IsLineFault, IsEntryOf}
 use Rattle.std.proofs.Common.{Some}

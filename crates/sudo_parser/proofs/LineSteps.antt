@@ -13,10 +13,11 @@ use Rattle.sudo_grammar.specs.declared.fault.Unsupported.TheVariants as forms
 use Rattle.sudo_parser.specs.declared.stops.ParserStop.{ParserStop}
 use Rattle.sudo_parser.specs.declared.stops.ParserStop.TheVariants as stops
 use Rattle.sudo_parser.specs.Body.Stops.{Stops, GivesEntry}
-use Rattle.sudo_grammar.specs.Reading.{reading}
+use Rattle.sudo_grammar.specs.Body.Reading.{reading}
 use Rattle.sudo_parser.proofs.Steps.{reading-same, stops_here, stops_same}
 use Rattle.sudo_grammar.specs.Openings.{Directive, BadDirective, Other, opening_of, has_host_escape}
-use Rattle.sudo_grammar.specs.States.{Start, Users, Item, Included, State, Room, at_start, step}
+use Rattle.sudo_grammar.specs.Faults.{Room}
+use Rattle.sudo_grammar.specs.Body.States.{Start, Users, Item, Included, State, at_start, step}
 use Rattle.sudo_grammar.specs.Refusals.{refused_start}
 use Rattle.sudo_grammar.proofs.Complete.{reading-step}
 use Rattle.sudo_grammar.proofs.Limits.{reading-stops}

@@ -1,9 +1,7 @@
 -- The steps of a list, as the parser takes them.
 use Rattle.std.proofs.Common.{◌≡◌, ℕ, zero, suc, ◌-◌, ◌≤◌, ◌<◌, List, [], ◌∷◌, ◌++◌, length, refl, ap, sym, ◌∙◌}
-use Rattle.std.proofs.Common.{subst, cond, Bool, true, false, None, Some, Ok, Err, arith, length-append}
-use Rattle.std.specs.Prelude.{slice_get, ◌&&◌}
-use Rattle.std.proofs.lemmas.Option.{slice_get_read}
-use Rattle.std.proofs.Math.Seq.{get_or-append_seam}
+use Rattle.std.proofs.Common.{subst, cond, Bool, true, false, None, Some, Ok, Err, arith}
+use Rattle.std.specs.Prelude.{◌&&◌}
 use Rattle.sudo_text.specs.declared.token.Mark.{Mark}
 use Rattle.sudo_text.specs.declared.token.Mark.TheVariants as marks
 use Rattle.sudo_text.specs.declared.token.Token.{Token}
@@ -23,16 +21,19 @@ use Rattle.sudo_parser.specs.declared.stops.ParserStop.TheVariants as stops
 use Rattle.sudo_grammar.specs.Words.{plain_word, is_option_name}
 use Rattle.sudo_grammar.specs.Members.{atom_of}
 use Rattle.sudo_grammar.specs.Openings.{is_mark, is_equal_mark, word_passes}
-use Rattle.sudo_grammar.specs.States.{Purpose, Defines, Users, Hosts, RunasUsers, RunasGroups, Binds, kind_for, State}
-use Rattle.sudo_grammar.specs.States.{Item, AfterItem, Room, at_item, after_item, member_state}
-use Rattle.sudo_grammar.specs.Refusals.{is_option, or_option, last_command, refused_atom, refusal_after_list}
-use Rattle.sudo_grammar.specs.Reading.{reading}
+use Rattle.sudo_grammar.specs.Body.States.{Purpose, Defines, Users, Hosts, RunasUsers, RunasGroups, Binds, kind_for}
+use Rattle.sudo_grammar.specs.Body.States.{State, Item, AfterItem, at_item, after_item, member_state}
+use Rattle.sudo_grammar.specs.Faults.{Room}
+use Rattle.sudo_grammar.specs.Refusals.{refused_atom}
+use Rattle.sudo_grammar.specs.Body.Refused.{is_option, or_option, last_command, refusal_after_list}
+use Rattle.sudo_grammar.specs.Body.Reading.{reading}
 use Rattle.sudo_parser.specs.Body.Gives.{Declines}
 use Rattle.sudo_parser.specs.Body.Stops.{IsMark, IsNext, IsNotNext}
 use Rattle.sudo_parser.specs.Body.Lists.{ReadsBangs, command_in, IsShut, Takes, stop_of_member, option_begins}
 use Rattle.sudo_parser.specs.Body.Lists.{StopsAtMember, StopsInItem, ReadsItem, ReadsToItem, ReadsItems, StopsInItems}
 use Rattle.sudo_parser.proofs.Steps.{reading-mark, stops_here, stops_same, IsNext-less}
 use Rattle.sudo_grammar.proofs.Complete.{at_item-member, reading-step}
+use Rattle.sudo_grammar.proofs.LastTokens.{last-snoc}
 use Rattle.sudo_grammar.proofs.Limits.{reading-stops}
 
 member_stop_here : (kind : Kind) (bangs : ℕ) (t : Token) (ts : List Token) (e : MemberFault) → (IsMark marks.Bang t → ⊥)
@@ -105,14 +106,7 @@ item-taken p d m h = at_item-member p m.bangs d m.token m.token.kind m.atom h �
 item-shut : (p : Purpose) (n : ℕ) (d : List Member) (t : Token) → IsMark marks.LeftParen t → at_item p n d t t.kind ≡ None
 item-shut p n d t is = ap (at_item p n d t) is ∙ ap (λ k. member_state p n d t (atom_of (kind_for p) k)) is
 
--- the last item of a list
-pub last-snoc : (d : List Member) (m : Member) → slice_get (d ++ m ∷ []) (length (d ++ m ∷ []) - 1) ≡ Some m
-last-snoc d m =
-    let longer : length (d ++ m ∷ []) ≡ suc (length d) = simp length-append (omega arith) in
-    let at : length (d ++ m ∷ []) - 1 ≡ length d = omega (arith, longer) in
-    ap (slice_get (d ++ m ∷ [])) at
-    ∙ slice_get_read (d ++ m ∷ []) (length (d ++ m ∷ [])) (length d) m refl (omega (arith, longer)) (sym (get_or-append_seam d m [] m))
-
+-- the last command of a list
 pub last_command-snoc : (kind : Kind) (d : List Member) (m : Member) → last_command kind (d ++ m ∷ []) ≡ command_in kind m
 last_command-snoc kinds.User d m = refl
 last_command-snoc kinds.Runas d m = refl

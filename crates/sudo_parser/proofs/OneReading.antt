@@ -10,9 +10,7 @@ use Rattle.sudo_grammar.specs.declared.policy.EntryBody.{EntryBody}
 use Rattle.sudo_grammar.specs.declared.fault.ParseFault.{ParseFault}
 use Rattle.sudo_grammar.specs.declared.fault.ParseFault.TheVariants as faults
 use Rattle.sudo_grammar.specs.Forms.{Writes}
-use Rattle.sudo_grammar.specs.States.{Room}
-use Rattle.sudo_grammar.specs.Reading.{Stop}
-use Rattle.sudo_grammar.specs.Faults.{WritesWithin, IsGrammarFault}
+use Rattle.sudo_grammar.specs.Faults.{Room, Stop, WritesWithin, IsGrammarFault}
 use Rattle.sudo_grammar.proofs.Unique.{unique}
 use Rattle.sudo_grammar.proofs.OneFault.{one-fault, faulty_unwritten}
 use Rattle.sudo_parser.specs.Parsed.{IsEntryOf, entry_of, room_after, AreEntriesAfter, IsLineFault, IsFirstFaultAfter, fault_at, column}

@@ -16,7 +16,7 @@ use Rattle.sudo_grammar.specs.declared.policy.EntryBody.TheVariants as bodies
 use Rattle.sudo_grammar.specs.declared.fault.ParseFault.{ParseFault}
 use Rattle.sudo_grammar.specs.Kinds.{same_kind}
 use Rattle.sudo_parser.specs.Limits.{definition_count, less}
-use Rattle.sudo_grammar.specs.States.{Room}
+use Rattle.sudo_grammar.specs.Faults.{Room}
 use Rattle.sudo_parser.specs.Parsed.{room_after, IsEntryOf, entry_of, AreEntriesAfter, AreEntries, IsLineFault}
 use Rattle.sudo_parser.specs.Parsed.{IsFirstFaultAfter, IsFirstFault, fits_room, over_limit_from}
 use Rattle.sudo_parser.specs.Body.Parsed.{Adds}

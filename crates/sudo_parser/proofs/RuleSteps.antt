@@ -20,14 +20,15 @@ use Rattle.sudo_grammar.specs.declared.fault.Refusal.TheVariants as refusals
 use Rattle.sudo_grammar.specs.declared.fault.Unsupported.TheVariants as forms
 use Rattle.sudo_parser.specs.declared.stops.ParserStop.{ParserStop}
 use Rattle.sudo_parser.specs.Body.Stops.{Stops, IsNext, IsNotNext}
-use Rattle.sudo_grammar.specs.Reading.{reading}
+use Rattle.sudo_grammar.specs.Body.Reading.{reading}
 use Rattle.sudo_parser.proofs.Steps.{reading-same, stops_same, not_head}
 use Rattle.sudo_grammar.specs.Words.{tag_of}
 use Rattle.sudo_grammar.specs.Members.{atom_of}
 use Rattle.sudo_grammar.specs.Forms.{as_tag}
-use Rattle.sudo_grammar.specs.States.{Granting, Users, Hosts, Item, AfterItem, Command, AfterCommand, Room, at_item}
-use Rattle.sudo_grammar.specs.States.{after_item, at_command, command_state, at_paren, after_command}
-use Rattle.sudo_grammar.specs.Refusals.{is_option}
+use Rattle.sudo_grammar.specs.Faults.{Room}
+use Rattle.sudo_grammar.specs.Body.States.{Granting, Users, Hosts, Item, AfterItem, Command, AfterCommand, at_item}
+use Rattle.sudo_grammar.specs.Body.States.{after_item, at_command, command_state, at_paren, after_command}
+use Rattle.sudo_grammar.specs.Body.Refused.{is_option}
 use Rattle.sudo_parser.specs.Body.Lists.{Takes, IsShut, ReadsItem, StopsInItem, ReadsItems}
 use Rattle.sudo_parser.specs.Body.Runas.{ReadsRunas}
 use Rattle.sudo_parser.specs.Body.Rules.{IsNoTagNext, ReadsTags, ReadsSpec, StopsInSpec, ReadsSections, StopsInSections}

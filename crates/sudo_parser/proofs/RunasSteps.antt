@@ -11,10 +11,11 @@ use Rattle.sudo_grammar.specs.declared.fault.Refusal.TheVariants as refusals
 use Rattle.sudo_parser.specs.declared.stops.ParserStop.{ParserStop}
 use Rattle.sudo_parser.specs.declared.stops.ParserStop.TheVariants as stops
 use Rattle.sudo_parser.specs.Body.Stops.{Stops, IsMark, IsNext, IsNotNext}
-use Rattle.sudo_grammar.specs.Reading.{reading}
+use Rattle.sudo_grammar.specs.Body.Reading.{reading}
 use Rattle.sudo_parser.proofs.Steps.{reading-mark, reading-same, stops_same, stops_always, not_head, IsNext-less}
-use Rattle.sudo_grammar.specs.States.{Granting, RunasUsers, RunasGroups, RunasStart, GroupsStart, Item, AfterItem}
-use Rattle.sudo_grammar.specs.States.{Room, after_runas, at_runas, at_groups, at_item, after_item, step}
+use Rattle.sudo_grammar.specs.Body.States.{Granting, RunasUsers, RunasGroups, RunasStart, GroupsStart, Item}
+use Rattle.sudo_grammar.specs.Body.States.{AfterItem, after_runas, at_runas, at_groups, at_item, after_item, step}
+use Rattle.sudo_grammar.specs.Faults.{Room}
 use Rattle.sudo_parser.specs.Body.Lists.{StopsInItems}
 use Rattle.sudo_parser.specs.Body.Runas.{users_state, EndsUsers, ReadsUsers, StopsInUsers, groups_state, EndsGroups}
 use Rattle.sudo_parser.specs.Body.Runas.{ReadsGroups, StopsInGroups, ReadsLists}

@@ -7,9 +7,10 @@ use Rattle.sudo_grammar.specs.declared.policy.EntryBody.{EntryBody}
 use Rattle.sudo_grammar.specs.declared.fault.Refusal.{Refusal}
 use Rattle.sudo_parser.specs.declared.stops.ParserStop.{ParserStop}
 use Rattle.sudo_parser.specs.declared.stops.ParserStop.TheVariants as stops
-use Rattle.sudo_grammar.specs.States.{State, Room, step, entry_after_list}
-use Rattle.sudo_grammar.specs.Refusals.{refused_at}
-use Rattle.sudo_grammar.specs.Reading.{Stop, stop_at, entry_or_stop, reading}
+use Rattle.sudo_grammar.specs.Faults.{Room, Stop}
+use Rattle.sudo_grammar.specs.Body.States.{State, step, entry_after_list}
+use Rattle.sudo_grammar.specs.Body.Refused.{refused_at}
+use Rattle.sudo_grammar.specs.Body.Reading.{stop_at, entry_or_stop, reading}
 use Rattle.sudo_parser.specs.Body.Stops.{Stops, IsMark, IsNext, IsNotNext}
 use Rattle.sudo_grammar.proofs.Complete.{reading-step}
 use Rattle.sudo_grammar.proofs.Limits.{reading-stops}

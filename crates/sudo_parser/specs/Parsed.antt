@@ -18,9 +18,7 @@ use Rattle.sudo_grammar.specs.declared.fault.Refusal.TheVariants as refusals
 use Rattle.sudo_grammar.specs.declared.fault.ParseFault.{ParseFault}
 use Rattle.sudo_grammar.specs.declared.fault.ParseFault.TheVariants as faults
 use Rattle.sudo_parser.specs.Limits.{definition_count, less}
-use Rattle.sudo_grammar.specs.States.{Room}
-use Rattle.sudo_grammar.specs.Reading.{Stop}
-use Rattle.sudo_grammar.specs.Faults.{WritesWithin, IsGrammarFault}
+use Rattle.sudo_grammar.specs.Faults.{Room, Stop, WritesWithin, IsGrammarFault}
 
 -- the maximum number of definitions of aliases of one kind
 abbrev pub alias_limit : ℕ

@@ -1,7 +1,8 @@
 //! Definitions of aliases.
 ghost use Rattle.std.specs.Prelude.{◌≡◌, ◌^◌, ◌<◌, [], length, IfOk, IfErr};
-ghost use Rattle.sudo_grammar.specs.States.{Room, AliasName};
-ghost use Rattle.sudo_grammar.specs.Reading.{reading};
+ghost use Rattle.sudo_grammar.specs.Faults.{Room};
+ghost use Rattle.sudo_grammar.specs.Body.States.{AliasName};
+ghost use Rattle.sudo_grammar.specs.Body.Reading.{reading};
 ghost use Rattle.sudo_parser.specs.Body.Stops.{GivesEntry};
 ghost use Rattle.sudo_parser.specs.Body.Aliases.{ReadsName, StopsInName, ReadsDefinition, StopsInDefinition};
 ghost use Rattle.sudo_parser.specs.Body.Unread.{tokens_left};

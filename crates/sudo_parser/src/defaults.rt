@@ -1,8 +1,9 @@
 //! Defaults lines: their bindings and their parameters.
 ghost use Rattle.std.specs.Prelude.{◌≡◌, ◌^◌, ◌<◌, ◌==◌, drop, length, IfOk, IfErr, IfSome, MatchOption};
 ghost use Rattle.sudo_grammar.specs.Openings.{is_direct, kind_of_mark, operator_of};
-ghost use Rattle.sudo_grammar.specs.States.{Room, DefaultsStart, bound_to};
-ghost use Rattle.sudo_grammar.specs.Reading.{reading};
+ghost use Rattle.sudo_grammar.specs.Faults.{Room};
+ghost use Rattle.sudo_grammar.specs.Body.States.{DefaultsStart, bound_to};
+ghost use Rattle.sudo_grammar.specs.Body.Reading.{reading};
 ghost use Rattle.sudo_parser.specs.Body.Stops.{GivesEntry};
 ghost use Rattle.sudo_parser.specs.Body.Defaults.{ReadsBinding, StopsInBinding, IsWordNext, IsWordMissing};
 ghost use Rattle.sudo_parser.specs.Body.Defaults.{IsOperatorNext, IsNoOperatorNext, ReadsParameter, StopsInParameter};

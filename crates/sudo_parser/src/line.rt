@@ -5,9 +5,9 @@ ghost use Rattle.sudo_grammar.specs.Members.{is_bare};
 ghost use Rattle.sudo_text.specs.declared.token.Token.{Token};
 ghost use Rattle.sudo_text.specs.declared.token.TokenKind.TheVariants as tokens;
 ghost use Rattle.sudo_grammar.specs.Openings as grammar;
-ghost use Rattle.sudo_grammar.specs.States as states;
-ghost use Rattle.sudo_grammar.specs.States.{Start};
-ghost use Rattle.sudo_grammar.specs.Reading.{reading};
+ghost use Rattle.sudo_grammar.specs.Faults as faults;
+ghost use Rattle.sudo_grammar.specs.Body.States.{Start};
+ghost use Rattle.sudo_grammar.specs.Body.Reading.{reading};
 ghost use Rattle.sudo_grammar.specs.Faults.{WritesWithin};
 ghost use Rattle.sudo_grammar.specs.declared.policy.EntryBody.{EntryBody};
 ghost use Rattle.sudo_parser.specs.Body.Stops.{GivesEntry};
@@ -108,7 +108,7 @@ fn include(
     rest: &[Token],
 ) -> Result<EntryBody, ParserStop>
     requires { left ≡ length rest.now + 1 }
-    ensures { (room : states.Room) (t : Token) → t.kind ≡ tokens.Include folder hash path.now
+    ensures { (room : faults.Room) (t : Token) → t.kind ≡ tokens.Include folder hash path.now
         → GivesEntry result (reading room Start (t ∷ rest.now)) }
 {
     if path.is_empty() {

@@ -1,7 +1,8 @@
 //! Rules: who may run which commands on which hosts.
 ghost use Rattle.std.specs.Prelude.{◌≡◌, ◌^◌, ◌<◌, ◌≤◌, [], drop, length, IfSome, IfOk, IfErr, MatchOption};
-ghost use Rattle.sudo_grammar.specs.States.{Room, Users, Item};
-ghost use Rattle.sudo_grammar.specs.Reading.{reading};
+ghost use Rattle.sudo_grammar.specs.Faults.{Room};
+ghost use Rattle.sudo_grammar.specs.Body.States.{Users, Item};
+ghost use Rattle.sudo_grammar.specs.Body.Reading.{reading};
 ghost use Rattle.sudo_parser.specs.Body.Stops.{GivesEntry};
 ghost use Rattle.sudo_parser.specs.Body.Rules.{IsTagNext, IsNoTagNext, ReadsTags, ReadsSpec, StopsInSpec, ReadsSpecs};
 ghost use Rattle.sudo_parser.specs.Body.Rules.{StopsInSpecs, ReadsSection, StopsInSection, ReadsSections};

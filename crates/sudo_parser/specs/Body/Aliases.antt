@@ -5,9 +5,10 @@ use Rattle.sudo_text.specs.declared.token.Token.{Token}
 use Rattle.sudo_grammar.specs.declared.kind.Kind.{Kind}
 use Rattle.sudo_grammar.specs.declared.policy.Definition.{Definition}
 use Rattle.sudo_parser.specs.declared.stops.ParserStop.{ParserStop}
-use Rattle.sudo_grammar.specs.States.{Defines, AliasName, AfterName, AfterItem, Room}
-use Rattle.sudo_grammar.specs.Refusals.{is_option, last_command}
-use Rattle.sudo_grammar.specs.Reading.{reading}
+use Rattle.sudo_grammar.specs.Faults.{Room}
+use Rattle.sudo_grammar.specs.Body.States.{Defines, AliasName, AfterName, AfterItem}
+use Rattle.sudo_grammar.specs.Body.Refused.{is_option, last_command}
+use Rattle.sudo_grammar.specs.Body.Reading.{reading}
 use Rattle.sudo_parser.specs.Body.Stops.{Stops, IsNotNext}
 
 -- `full`: a further definition would be over the limit

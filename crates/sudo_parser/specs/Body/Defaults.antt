@@ -13,8 +13,9 @@ use Rattle.sudo_grammar.specs.declared.fault.Refusal.TheVariants as refusals
 use Rattle.sudo_parser.specs.declared.stops.ParserStop.{ParserStop}
 use Rattle.sudo_parser.specs.declared.stops.ParserStop.TheVariants as stops
 use Rattle.sudo_grammar.specs.Openings.{is_word, operator_of}
-use Rattle.sudo_grammar.specs.States.{DefaultsStart, AtParameter, AfterSwitch, AfterValue, State, Room, step}
-use Rattle.sudo_grammar.specs.Reading.{reading}
+use Rattle.sudo_grammar.specs.Faults.{Room}
+use Rattle.sudo_grammar.specs.Body.States.{DefaultsStart, AtParameter, AfterSwitch, AfterValue, State, step}
+use Rattle.sudo_grammar.specs.Body.Reading.{reading}
 use Rattle.sudo_parser.specs.Body.Stops.{Stops, IsMark}
 
 -- the reading of the line's binding, if any, leads to the rest

@@ -15,9 +15,11 @@ use Rattle.sudo_parser.specs.declared.stops.ParserStop.TheVariants as stops
 use Rattle.sudo_grammar.specs.Words.{plain_word, is_option_name}
 use Rattle.sudo_grammar.specs.Openings.{word_passes}
 use Rattle.sudo_grammar.specs.Members.{atom_of}
-use Rattle.sudo_grammar.specs.States.{Purpose, kind_for, State, Item, AfterItem, Room, step, entry_after_list}
-use Rattle.sudo_grammar.specs.Refusals.{is_option, is_next, with_next, last_command, refused_at, refused_member}
-use Rattle.sudo_grammar.specs.Reading.{reading}
+use Rattle.sudo_grammar.specs.Faults.{Room}
+use Rattle.sudo_grammar.specs.Body.States.{Purpose, kind_for, State, Item, AfterItem, step, entry_after_list}
+use Rattle.sudo_grammar.specs.Refusals.{is_next, with_next, refused_member}
+use Rattle.sudo_grammar.specs.Body.Refused.{is_option, last_command, refused_at}
+use Rattle.sudo_grammar.specs.Body.Reading.{reading}
 use Rattle.sudo_parser.specs.Body.Stops.{Stops, IsMark, IsNotNext}
 
 -- these states count exclamation marks

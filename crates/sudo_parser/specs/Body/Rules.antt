@@ -11,9 +11,10 @@ use Rattle.sudo_grammar.specs.declared.policy.EntryBody.TheVariants as entries
 use Rattle.sudo_parser.specs.declared.stops.ParserStop.{ParserStop}
 use Rattle.sudo_grammar.specs.Words.{tag_of}
 use Rattle.sudo_grammar.specs.Forms.{as_tag}
-use Rattle.sudo_grammar.specs.States.{Granting, Hosts, Command, Item, AfterCommand, Room}
-use Rattle.sudo_grammar.specs.Refusals.{is_option}
-use Rattle.sudo_grammar.specs.Reading.{reading}
+use Rattle.sudo_grammar.specs.Faults.{Room}
+use Rattle.sudo_grammar.specs.Body.States.{Granting, Hosts, Command, Item, AfterCommand}
+use Rattle.sudo_grammar.specs.Body.Refused.{is_option}
+use Rattle.sudo_grammar.specs.Body.Reading.{reading}
 use Rattle.sudo_parser.specs.Body.Stops.{Stops, IsNext, IsNotNext}
 
 -- a tag and the colon after it come next

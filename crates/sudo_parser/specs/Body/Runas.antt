@@ -8,8 +8,10 @@ use Rattle.sudo_grammar.specs.declared.fault.Expected.TheVariants as wants
 use Rattle.sudo_grammar.specs.declared.fault.Refusal.TheVariants as refusals
 use Rattle.sudo_parser.specs.declared.stops.ParserStop.{ParserStop}
 use Rattle.sudo_parser.specs.declared.stops.ParserStop.TheVariants as stops
-use Rattle.sudo_grammar.specs.States.{Granting, RunasUsers, RunasGroups, State, Command, AfterItem, RunasStart, GroupsStart, Room}
-use Rattle.sudo_grammar.specs.Reading.{reading}
+use Rattle.sudo_grammar.specs.Faults.{Room}
+use Rattle.sudo_grammar.specs.Body.States.{Granting, RunasUsers, RunasGroups, State, Command, AfterItem, RunasStart}
+use Rattle.sudo_grammar.specs.Body.States.{GroupsStart}
+use Rattle.sudo_grammar.specs.Body.Reading.{reading}
 use Rattle.sudo_parser.specs.Body.Stops.{Stops, IsNext, IsNotNext}
 
 -- the state after the users between parentheses, if any

@@ -6,7 +6,7 @@ use Rattle.sudo_text.specs.declared.token.TokenKind.TheVariants as tokens
 use Rattle.sudo_grammar.specs.declared.policy.EntryBody.{EntryBody}
 use Rattle.sudo_parser.specs.declared.stops.ParserStop.{ParserStop}
 use Rattle.sudo_parser.specs.declared.stops.ParserStop.TheVariants as stops
-use Rattle.sudo_grammar.specs.Reading.{Stop}
+use Rattle.sudo_grammar.specs.Faults.{Stop}
 
 -- the reading stops with this refusal and as many tokens left, or allocation failed
 abbrev pub Stops : ParserStop → Result EntryBody Stop → Type 0

@@ -1,4 +1,4 @@
-use Rattle.sudo_grammar.proofs.ExpectedTokens.{stands}
+use Rattle.sudo_grammar.proofs.OneFault.{stands}
 use Rattle.sudo_grammar.proofs.laws.expected_could_stand.Goals as goal
 
 pub returns : goal.returns

@@ -1,4 +1,4 @@
-use Rattle.sudo_grammar.proofs.OneFault.{state-left, state-whole}
+use Rattle.sudo_grammar.proofs.Steps.{state-left, state-whole}
 use Rattle.sudo_grammar.proofs.laws.states_mean_forms.Goals as goal
 
 pub returns-clause-completes : goal.returns-clause-completes

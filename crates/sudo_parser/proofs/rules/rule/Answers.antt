@@ -2,7 +2,7 @@ use Rattle.std.proofs.Common.{Result, Ok, Err, ◌≡◌, subst, sym}
 use Rattle.std.specs.Result.{IsErrAnd}
 use Rattle.sudo_grammar.specs.declared.policy.EntryBody.{EntryBody}
 use Rattle.sudo_parser.specs.declared.stops.ParserStop.{ParserStop}
-use Rattle.sudo_grammar.specs.Reading.{Stop}
+use Rattle.sudo_grammar.specs.Faults.{Stop}
 use Rattle.sudo_parser.specs.Body.Stops.{Stops, GivesEntry}
 use Rattle.sudo_parser.specs.Body.Unread.{tokens_left}
 use Rattle.sudo_parser.proofs.RuleSteps.{rule-reads, rule-stops}

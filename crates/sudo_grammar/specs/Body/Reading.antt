@@ -1,16 +1,11 @@
--- The reading of a line's tokens from a state on: the entry, or where it stops and why. The `expected` of a fault needs
--- these definitions, and the parser's steps are compared with them; `Forms` defines what an entry is.
+-- The reading of a line's tokens from a state on: the entry, or where it stops and why. The parser's steps are compared with
+-- these definitions; `Forms` defines what an entry is, and `Faults` what its fault is.
 use Rattle.std.specs.Prelude.{List, [], ◌∷◌, Option, None, Some, Result, Ok, Err}
 use Rattle.sudo_text.specs.declared.token.Token.{Token}
 use Rattle.sudo_grammar.specs.declared.policy.EntryBody.{EntryBody}
-use Rattle.sudo_grammar.specs.declared.fault.Refusal.{Refusal}
-use Rattle.sudo_grammar.specs.States.{State, Room, step, entry_after_list}
-use Rattle.sudo_grammar.specs.Refusals.{refused_at}
-
--- a refusal, and the tokens from the refused one on
-pub record Stop : Type 0 where
-  pub rest : List Token
-  pub refusal : Refusal
+use Rattle.sudo_grammar.specs.Faults.{Room, Stop}
+use Rattle.sudo_grammar.specs.Body.States.{State, step, entry_after_list}
+use Rattle.sudo_grammar.specs.Body.Refused.{refused_at}
 
 abbrev pub stop_at : State → List Token → Stop
 stop_at state ts = record { rest = ts; refusal = refused_at state ts }

@@ -1,6 +1,5 @@
--- The meaning of a parser state: the forms that are left up to the end of the line, and the entry that they complete. A
--- reader checks the table of expected words against this file by eye; the law `states_mean_forms` states that tokens
--- lead to a state exactly if these forms are left of the entry's form.
+-- The meaning of a parser state: the forms that are left up to the end of the line, and the entry that they complete. The
+-- law `states_mean_forms` states that tokens lead to a state exactly if these forms are left of the entry's form.
 use Rattle.std.specs.Prelude.{◌≡◌, ℕ, zero, suc, ◌+◌, List, [], ◌∷◌, ◌++◌, Option, None, Some, ◌⊎◌}
 use Rattle.sudo_text.specs.declared.token.Mark.TheVariants as marks
 use Rattle.sudo_text.specs.declared.token.Token.{Token}
@@ -22,10 +21,10 @@ use Rattle.sudo_grammar.specs.Forms.{◌▸◌, Form, never, one, mark, bangs, m
 use Rattle.sudo_grammar.specs.Forms.{definition_list, optional, runas, groups, tags, as_tag, more_specs, specs}
 use Rattle.sudo_grammar.specs.Forms.{more_sections, sections, binding, the_word, parameter, more_parameters}
 use Rattle.sudo_grammar.specs.Forms.{parameter_list, Writes}
-use Rattle.sudo_grammar.specs.States.{Granting, Purpose, Defines, Users, Hosts, RunasUsers, RunasGroups, Binds}
-use Rattle.sudo_grammar.specs.States.{kind_for, bound_to, State, Start, AliasName, AfterName, Item, AfterItem}
-use Rattle.sudo_grammar.specs.States.{Command, AfterCommand, RunasStart, GroupsStart, DefaultsStart, AtParameter}
-use Rattle.sudo_grammar.specs.States.{AfterSwitch, AtValue, AfterValue, Included}
+use Rattle.sudo_grammar.specs.Body.States.{Granting, Purpose, Defines, Users, Hosts, RunasUsers, RunasGroups, Binds}
+use Rattle.sudo_grammar.specs.Body.States.{kind_for, bound_to, State, Start, AliasName, AfterName, Item, AfterItem}
+use Rattle.sudo_grammar.specs.Body.States.{Command, AfterCommand, RunasStart, GroupsStart, DefaultsStart, AtParameter}
+use Rattle.sudo_grammar.specs.Body.States.{AfterSwitch, AtValue, AfterValue, Included}
 
 -- after a command: further commands, and further sections
 abbrev pub AfterSpec : Granting → CommandSpec → EntryBody → List Token → Type 0

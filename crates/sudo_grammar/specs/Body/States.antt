@@ -1,6 +1,5 @@
--- The states of the parser in a line, each with the parts that it has read. The `expected` of a fault needs these
--- definitions. The meaning of a state is stated apart from any reading, by the forms that are left there: see
--- `Remaining` and the law `states_mean_forms`.
+-- The states of the parser in a line, each with the parts that it has read. The meaning of a state is stated apart from
+-- any reading, by the forms that are left there: see `Remaining` and the law `states_mean_forms`.
 use Rattle.std.specs.Prelude.{ℕ, zero, suc, nat_lt, Bool, true, false, List, [], ◌∷◌, ◌++◌, length, Option, None}
 use Rattle.std.specs.Prelude.{Some, Result, Ok, Err, if◌then◌else◌}
 use Rattle.sudo_text.specs.declared.token.Mark.TheVariants as marks
@@ -30,6 +29,7 @@ use Rattle.sudo_grammar.specs.Forms.{as_tag}
 use Rattle.sudo_grammar.specs.Openings.{Opening, Keyword, DefaultsLine, Directive, BadDirective, Other, opening_of}
 use Rattle.sudo_grammar.specs.Openings.{is_direct, kind_of_mark, operator_of}
 use Rattle.sudo_grammar.specs.Members.{atom_of}
+use Rattle.sudo_grammar.specs.Faults.{Room}
 
 -- a rule up to a command: its users, its earlier sections, and the hosts and the earlier commands of this section
 pub record Granting : Type 0 where
@@ -94,10 +94,6 @@ pub data State : Type 0 where
   AfterValue : (binding : Option Binding) → (done : List Parameter) → State
   -- after an include directive
   Included : (folder hash : Bool) → (path : List Ch) → State
-
--- the number of definitions of each kind that are still allowed
-abbrev pub Room : Type 0
-Room = Kind → ℕ
 
 -- the state after a member
 abbrev pub member_state : Purpose → ℕ → List Member → Token → Result Atom Refusal → Option State
