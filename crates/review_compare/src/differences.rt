@@ -340,8 +340,9 @@ fn rows_between(
     Ok(rows)
 }
 
-// The number of parts of the users, each of which is compared in a thread of its own.
-const PARTS: usize = 4;
+/// The number of parts of the known hosts, each of which is looked up in a thread of its own, and of the known users, each of which is
+/// compared in one.
+pub(crate) const PARTS: usize = 4;
 
 // The number of buckets in which the rows of all users are found.
 const BUCKETS_OF_ALL: usize = 16384;
@@ -489,8 +490,9 @@ fn compared_grants<'a, T: Threads + Sync>(
 /// not, and two equal commands that follow equal ones in their lines apply alike.
 ///
 /// Of cells that differ in the host alone, those of which the same is found are one row, with its hosts in order; then rows that differ in
-/// the target alone, with its targets in the order of the known users, in the group alone, and in the user alone. The users are compared
-/// in several threads, where these can be made; the rows are the same without. Returns `AllocError` if allocation fails.
+/// the target alone, with its targets in the order of the known users, in the group alone, and in the user alone. The hosts are looked up
+/// and the users compared in several threads, where these can be made; the rows are the same without. Returns `AllocError` if allocation
+/// fails.
 pub fn compared_policies<T: Threads + Sync>(
     alloc: Global,
     threads: &T,

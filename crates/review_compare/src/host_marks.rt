@@ -5,6 +5,7 @@ ghost use Rattle.review_compare.specs.Body.Chosen.{AreMarks, host_at};
 ghost use Rattle.review_compare.specs.Body.HostMarks as body;
 
 use crate::common::Common;
+use crate::differences::PARTS;
 use crate::pair::Pair;
 use crate::side::Side;
 use crate::spot::Listed;
@@ -163,9 +164,6 @@ fn marks_from(
     }
     Ok(marks)
 }
-
-// The number of parts of the hosts, each of which is looked up in a thread of its own.
-const PARTS: usize = 4;
 
 // Returns the marks of all parts, each of so many hosts.
 fn joined_marks(
