@@ -2,6 +2,8 @@
 -- none before it in the order, since a token of each of these sorts is refused.
 use Rattle.std.proofs.Common.{cond, inl, inr, ◌⊎◌, ◌≡◌, ℕ, List, [], ◌∷◌, ◌++◌, refl, ap, sym, ◌∙◌}
 use Rattle.std.proofs.Common.{Option, None, Some, Result, Ok, Err, true, false, Bool}
+use Rattle.std.specs.Prelude.{codes}
+use Rattle.std.specs.Str.{bytes_eq}
 use Rattle.sudo_base.proofs.Options.{some_injective}
 use Rattle.sudo_text.specs.declared.token.Mark.TheVariants as marks
 use Rattle.sudo_text.specs.declared.token.Token.{Token}
@@ -9,12 +11,13 @@ use Rattle.sudo_text.specs.declared.token.TokenKind.{TokenKind}
 use Rattle.sudo_text.specs.declared.token.TokenKind.TheVariants as tokens
 use Rattle.sudo_grammar.specs.declared.kind.Kind.TheVariants as kinds
 use Rattle.sudo_grammar.specs.declared.kind.Atom.{Atom}
+use Rattle.sudo_grammar.specs.declared.kind.Atom.TheVariants as atoms
 use Rattle.sudo_grammar.specs.declared.fault.Expected.{Expected}
 use Rattle.sudo_grammar.specs.declared.fault.Expected.TheVariants as wants
 use Rattle.sudo_grammar.specs.declared.fault.Refusal.{Refusal}
 use Rattle.sudo_grammar.specs.declared.fault.Refusal.TheVariants as refusals
 use Rattle.sudo_grammar.specs.declared.fault.Unsupported.TheVariants as forms
-use Rattle.sudo_grammar.specs.Words.{plain_word}
+use Rattle.sudo_grammar.specs.Words.{plain_word, is_name}
 use Rattle.sudo_grammar.specs.Members.{atom_of, other_atom, plain_atom}
 use Rattle.sudo_grammar.specs.Standing.{BeginsEntry, MembersStand, CanStand, IsExpected}
 use Rattle.sudo_grammar.specs.Refusals.{refused_atom, refused_member, IsOption, IsRefusal}
@@ -34,16 +37,15 @@ abbrev pub user : Token
 user = record { kind = tokens.Word false (record { byte = 47; escaped = false } ∷ []); start = 0; end = 1 }
 
 -- users to run as are users
-same-word : (quoted : Bool) (o : Option (List ℕ)) (k : TokenKind) → other_atom kinds.User k ≡ other_atom kinds.Runas k
+same-word : (o : Option (List ℕ)) (k : TokenKind) → other_atom kinds.User k ≡ other_atom kinds.Runas k
     → elim o as (λ _. Result Atom Refusal) [ Some w ↦ plain_atom kinds.User k w | None ↦ other_atom kinds.User k ]
     ≡ elim o as (λ _. Result Atom Refusal) [ Some w ↦ plain_atom kinds.Runas k w | None ↦ other_atom kinds.Runas k ]
-same-word quoted None k e = e
-same-word quoted (Some w) k e = ap (λ r. cond (Rattle.std.specs.Str.bytes_eq w (Rattle.std.specs.Prelude.codes "ALL"))
-    (Ok Rattle.sudo_grammar.specs.declared.kind.Atom.TheVariants.All) (cond (Rattle.sudo_grammar.specs.Words.is_name w)
-    (Ok (Rattle.sudo_grammar.specs.declared.kind.Atom.TheVariants.Alias w)) r)) e
+same-word None k e = e
+same-word (Some w) k e =
+    ap (λ r. cond (bytes_eq w (codes "ALL")) (Ok atoms.All) (cond (is_name w) (Ok (atoms.Alias w)) r)) e
 
 pub same-atom : (k : TokenKind) → atom_of kinds.User k ≡ atom_of kinds.Runas k
-same-atom (tokens.Word quoted chars) = same-word quoted (plain_word (tokens.Word quoted chars)) (tokens.Word quoted chars) refl
+same-atom (tokens.Word quoted chars) = same-word (plain_word (tokens.Word quoted chars)) (tokens.Word quoted chars) refl
 same-atom (tokens.Mark m) = refl
 same-atom (tokens.Command path args) = refl
 same-atom (tokens.Include folder hash path) = refl
@@ -115,15 +117,21 @@ module _ (room : Room) (front : List Token) (q : State) (reached : state_after r
 
             pub is-name : Refuses (the_mark marks.RightParen) → CanStand wants.AliasName front → IsExpected wants.AliasName front
             is-name paren h =
-                inr (no-end, inr (no-equals, inr (no-command, inr (no-parameter, inr (no-value, inr (no-member, inr (no-paren, inl (refl, h))))))))
+                inr (no-end, inr (no-equals, inr (no-command, inr (no-parameter, inr (no-value, inr (no-member, inr (no-paren, first)))))))
               where
+                first : (wants.AliasName ≡ wants.AliasName) × CanStand wants.AliasName front ⊎ ((CanStand wants.AliasName front → ⊥) × ⊥)
+                first = inl (refl, h)
+
                 no-paren : CanStand wants.RightParen front → ⊥
                 no-paren h = gone (the_mark marks.RightParen) paren (h (the_mark marks.RightParen) refl)
 
   -- the refusal where no member and no name is expected
+  abbrev option_or : Bool → Expected → Refusal
+  option_or b x = cond b (refusals.Unsupported forms.CommandOption) (refusals.Syntax x)
+
   pub is-refusal : (ts : List Token) (x : Expected) (b : Bool) → is_option (command_before q) ts ≡ b
-      → (IsOption front ts × (cond b (refusals.Unsupported forms.CommandOption) (refusals.Syntax x) ≡ refusals.Unsupported forms.CommandOption))
-      ⊎ ((IsOption front ts → ⊥) × (cond b (refusals.Unsupported forms.CommandOption) (refusals.Syntax x) ≡ refusals.Syntax x))
+      → (IsOption front ts × (option_or b x ≡ refusals.Unsupported forms.CommandOption))
+      ⊎ ((IsOption front ts → ⊥) × (option_or b x ≡ refusals.Syntax x))
   is-refusal ts x true is = inl (option-here room ts front q reached is, refl)
   is-refusal ts x false is = inr ((λ h. no_option (sym is ∙ option-there room ts front q reached h)), refl)
     where

@@ -93,7 +93,8 @@ module _ (before next : State) (t : Token) where
   by-equals k d w _ h = cc
 
   by-list : (p : Purpose) (d : List Member) (k : TokenKind) → after_list p d t k ≡ Some next → Came before t next
-  by-list (Defines k done w) d (tokens.Mark marks.Colon) h = to before next t (AliasName k (done ++ record { name = w; members = d } ∷ [])) h tt
+  by-list (Defines k done w) d (tokens.Mark marks.Colon) h =
+      to before next t (AliasName k (done ++ record { name = w; members = d } ∷ [])) h tt
   by-list (Defines k done w) d _ h = cc
   by-list Users d k h = by-item (Hosts d []) 0 [] k (λ e. cc) h
   by-list (Hosts us ss) d (tokens.Mark marks.Equals) h =
@@ -252,8 +253,8 @@ module _ (room : Room) (front : List Token) where
   in-list (RunasGroups g us) d reached stands = not-there (AfterItem (RunasGroups g us) d) reached stands (λ wide. refl)
   in-list (Binds k) d reached stands = not-there (AfterItem (Binds k) d) reached stands (λ wide. refl)
 
-  after-switch : (b : Option Binding) (d : List Parameter) (n : ℕ) (name : Token) → state_after room Start front ≡ Some (AfterSwitch b d n name)
-      → MembersStand kinds.Cmnd front → WantsCommand (AfterSwitch b d n name)
+  after-switch : (b : Option Binding) (d : List Parameter) (n : ℕ) (name : Token)
+      → state_after room Start front ≡ Some (AfterSwitch b d n name) → MembersStand kinds.Cmnd front → WantsCommand (AfterSwitch b d n name)
   after-switch b d zero name reached stands = not-there (AfterSwitch b d zero name) reached stands (λ wide. refl)
   after-switch b d (suc n) name reached stands = not-there (AfterSwitch b d (suc n) name) reached stands (λ wide. refl)
 
@@ -308,7 +309,8 @@ module _ (room : Room) (ts : List Token) where
           ∙ ap (λ o. is_option o ts) (last-snoc d (record { bangs = n; token = t; atom = a })) ∙ named)
   word-item p n d t q (tokens.Mark m) is commands h named = absurd (no-word t ts (tokens.Mark m) is refl named)
   word-item p n d t q (tokens.Command path args) is commands h named = absurd (no-word t ts (tokens.Command path args) is refl named)
-  word-item p n d t q (tokens.Include folder hash path) is commands h named = absurd (no-word t ts (tokens.Include folder hash path) is refl named)
+  word-item p n d t q (tokens.Include folder hash path) is commands h named =
+      absurd (no-word t ts (tokens.Include folder hash path) is refl named)
 
   word-command : (g : Granting) (r : Option Runas) (tags : List Tag) (n : ℕ) (t : Token) (q : State) (k : TokenKind) → t.kind ≡ k
       → at_command g r tags n t k ≡ Some q → names_option t ts ≡ true → is_option (command_before q) ts ≡ true
@@ -319,7 +321,8 @@ module _ (room : Room) (ts : List Token) where
       go (Ok a) h = subst (λ x. is_option (command_before x) ts ≡ true) (some_injective _ _ h) named
   word-command g r tags n t q (tokens.Mark m) is h named = absurd (no-word t ts (tokens.Mark m) is refl named)
   word-command g r tags n t q (tokens.Command path args) is h named = absurd (no-word t ts (tokens.Command path args) is refl named)
-  word-command g r tags n t q (tokens.Include folder hash path) is h named = absurd (no-word t ts (tokens.Include folder hash path) is refl named)
+  word-command g r tags n t q (tokens.Include folder hash path) is h named =
+      absurd (no-word t ts (tokens.Include folder hash path) is refl named)
 
   word-last : (p q : State) (t : Token) → WantsCommand p → step room p t ≡ Some q → names_option t ts ≡ true
       → is_option (command_before q) ts ≡ true
@@ -358,7 +361,8 @@ module _ (room : Room) (ts : List Token) where
   -- an option by the state is one by the tokens
   pub option-here : (front : List Token) (q : State) → state_after room Start front ≡ Some q
       → is_option (command_before q) ts ≡ true → IsOption front ts
-  option-here [] q reached h = absurd (none-first (subst (λ x. is_option (command_before x) ts ≡ true) (sym (some_injective _ _ reached)) h))
+  option-here [] q reached h =
+      absurd (none-first (subst (λ x. is_option (command_before x) ts ≡ true) (sym (some_injective _ _ reached)) h))
     where
       none-first : is_option (command_before Start) ts ≡ true → ⊥
       none-first h = cc

@@ -14,6 +14,7 @@ use Rattle.sudo_grammar.specs.Standing.{BeginsEntry, MembersStand, CanStand, IsF
 use Rattle.sudo_grammar.specs.Refusals.{refused_member, IsOption, IsRefusal}
 use Rattle.sudo_grammar.specs.Faults.{Room, Stop, IsOneTooMany, IsStuck, IsGrammarFault, WritesWithin}
 use Rattle.sudo_grammar.specs.Body.States.{Start, State, state_after}
+use Rattle.sudo_grammar.specs.Body.Refused.{refused_at}
 use Rattle.sudo_grammar.specs.Body.Reading.{reading}
 use Rattle.sudo_grammar.proofs.Complete.{entry-read}
 use Rattle.sudo_grammar.proofs.Limits.{room-kept}
@@ -94,10 +95,10 @@ begins-front front more t (e, rest, w) = (e, more ++ rest, subst (Writes e) whol
     whole = rw (append_assoc, append_assoc) refl
 
 -- no fault is before a fault
-none-before : (room : Room) (ts front : List Token) (stop : Stop) (rest : List Token) → IsGrammarFault room ts stop → (f : IsGrammarFault room ts stop)
+none-before : (room : Room) (ts front : List Token) (stop : Stop) (rest : List Token) (f : IsGrammarFault room ts stop)
     → IsStuck room front rest → Goes front rest f.front → ⊥
 unfolding Goes
-none-before room ts front stop rest again f stuck (t, (more, (after, (longer, is)))) = go (subst (IsStuck room front) is stuck)
+none-before room ts front stop rest f stuck (t, (more, (after, (longer, is)))) = go (subst (IsStuck room front) is stuck)
   where
     go : IsStuck room front (t ∷ after) → ⊥
     go (inl dead) = dead (begins-front front more t (subst BeginsEntry longer f.begins))
@@ -110,16 +111,18 @@ one-fault room ts x y f g = go (fronts f.front g.front x.rest y.rest (sym f.whol
     same (front, rest) =
         let wanted : IsExpected f.expected g.front = subst (IsExpected f.expected) front f.wanted in
         let word : f.expected ≡ g.expected = one-first g.front sorts f.expected g.expected wanted g.wanted in
+        let there : IsRefusal f.expected f.front y.rest x.refusal =
+        subst (λ l. IsRefusal f.expected f.front l x.refusal) rest f.refused in
         let refused : IsRefusal g.expected g.front y.rest x.refusal =
         subst (λ e. IsRefusal e g.front y.rest x.refusal) word
-        (subst (λ l. IsRefusal f.expected l y.rest x.refusal) front (subst (λ l. IsRefusal f.expected f.front l x.refusal) rest f.refused)) in
+        (subst (λ l. IsRefusal f.expected l y.rest x.refusal) front there) in
         let why : x.refusal ≡ y.refusal = one-refusal g.expected g.front y.rest x.refusal y.refusal refused g.refused in
         λ i. record { rest = rest i; refusal = why i }
 
     go : ((f.front ≡ g.front) × (x.rest ≡ y.rest)) ⊎ (Goes f.front x.rest g.front ⊎ Goes g.front y.rest f.front) → x ≡ y
     go (inl both) = same both
-    go (inr (inl before)) = absurd (none-before room ts f.front y x.rest g g f.stuck before)
-    go (inr (inr before)) = absurd (none-before room ts g.front x y.rest f f g.stuck before)
+    go (inr (inl before)) = absurd (none-before room ts f.front y x.rest g f.stuck before)
+    go (inr (inr before)) = absurd (none-before room ts g.front x y.rest f g.stuck before)
 
 -- The reading stops at the fault.
 
@@ -146,7 +149,7 @@ leftmost room ts stop h = go (halts room Start ts stop h)
     go : Halts room Start ts stop → IsGrammarFault room ts stop
     go x = fault (refused-state room x.front stop.rest x.last x.reached)
       where
-        fault : IsRefused x.front stop.rest (Rattle.sudo_grammar.specs.Body.Refused.refused_at x.last stop.rest) → IsGrammarFault room ts stop
+        fault : IsRefused x.front stop.rest (refused_at x.last stop.rest) → IsGrammarFault room ts stop
         fault (expected, (wanted, refused)) = record {
           front = x.front;
           whole = x.whole;

@@ -7,14 +7,14 @@ use Rattle.sudo_grammar.specs.declared.kind.Member.{Member}
 use Rattle.sudo_grammar.specs.declared.fault.Expected.TheVariants as wants
 use Rattle.sudo_grammar.specs.declared.fault.Refusal.TheVariants as refusals
 use Rattle.sudo_grammar.specs.Members.{atom_of, expected_in}
-use Rattle.sudo_grammar.specs.Standing.{MembersStand}
+use Rattle.sudo_grammar.specs.Standing.{MembersStand, CanStand}
 use Rattle.sudo_grammar.specs.Refusals.{refused_member, refused_first, IsRefusal}
 use Rattle.sudo_grammar.specs.Faults.{Room}
 use Rattle.sudo_grammar.specs.Body.States.{Purpose, Defines, Users, Hosts, RunasUsers, RunasGroups, Binds}
 use Rattle.sudo_grammar.specs.Body.States.{kind_for, State, Start, AliasName, AfterName, Item, AfterItem, Command}
 use Rattle.sudo_grammar.specs.Body.States.{AfterCommand, RunasStart, GroupsStart, DefaultsStart, AtParameter}
 use Rattle.sudo_grammar.specs.Body.States.{AfterSwitch, AtValue, AfterValue, Included, member_state, state_after}
-use Rattle.sudo_grammar.specs.Body.Refused.{is_option, refused_at}
+use Rattle.sudo_grammar.specs.Body.Refused.{is_option, or_option, refused_at}
 use Rattle.sudo_grammar.proofs.Complete.{at_item-takes, runas-first, groups-first}
 use Rattle.sudo_grammar.proofs.LastTokens.{slash, command_before, start-only}
 use Rattle.sudo_grammar.proofs.ExpectedTokens.{step-begins, after-stands, state-stands, may-end}
@@ -147,8 +147,7 @@ module _ (room : Room) (front ts : List Token) where
 
   -- where the line could end
   refused-end : (q : State) → state_after room Start front ≡ Some q
-      → Rattle.sudo_grammar.specs.Standing.CanStand wants.EndOfLine front
-      → IsRefused front ts (Rattle.sudo_grammar.specs.Body.Refused.or_option (command_before q) ts (refusals.Syntax wants.EndOfLine))
+      → CanStand wants.EndOfLine front → IsRefused front ts (or_option (command_before q) ts (refusals.Syntax wants.EndOfLine))
   refused-end q reached stands = (
     wants.EndOfLine,
     (is-end room front q reached stands, is-refusal room front q reached ts wants.EndOfLine (is_option (command_before q) ts) refl),

@@ -61,7 +61,8 @@ pub ends_in : {A : Type 0} (x : A) (xs : List A) → (before : List A) × ((last
 ends_in x [] = ([], (x, refl))
 ends_in {A = A} x (y ∷ ys) = go (ends_in y ys)
   where
-    go : (before : List A) × ((last : A) × (y ∷ ys ≡ before ++ last ∷ [])) → (before : List A) × ((last : A) × (x ∷ y ∷ ys ≡ before ++ last ∷ []))
+    go : (before : List A) × ((last : A) × (y ∷ ys ≡ before ++ last ∷ []))
+        → (before : List A) × ((last : A) × (x ∷ y ∷ ys ≡ before ++ last ∷ []))
     go (before, (last, e)) = (x ∷ before, (last, ap (λ l. x ∷ l) e))
 
 -- what is read leads to a state

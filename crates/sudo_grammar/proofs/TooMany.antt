@@ -90,7 +90,8 @@ module _ (room : Room) (k : Kind) (d : List Definition) where
     where
       go : (b : Bool) → ltb (length done) (room l) ≡ b → AliasName l done ≡ AliasName k d
       go true is =
-          let read : ◌≡◌ {A = Result EntryBody Stop} (Ok (entries.Aliases l (done ++ sample ∷ []))) (Ok (entries.Aliases k (d ++ sample ∷ []))) =
+          let read : ◌≡◌ {A = Result EntryBody Stop} (Ok (entries.Aliases l (done ++ sample ∷ [])))
+          (Ok (entries.Aliases k (d ++ sample ∷ []))) =
           sym (reading-step room (AliasName l done) (AfterName l done (65 ∷ [])) a (the_mark marks.Equals ∷ all ∷ [])
           (ap (λ b. cond b (Some (AfterName l done (65 ∷ []))) None) is)) ∙ h in
           let kind : l ≡ k = same-kind read in
@@ -130,13 +131,15 @@ module _ (room : Room) (k : Kind) (d : List Definition) where
 -- where the name of an alias is expected a further definition could follow, and nowhere else
 name-follows : (room : Room) (front : List Token) (k : Kind) (d : List Definition)
     → state_after room Start front ≡ Some (AliasName k d) → DefinitionsFollow k d front
-name-follows room front k d reached ds ts h = state-whole room front (AliasName k d) (entries.Aliases k (d ++ ds)) ts reached (ds, (h, refl))
+name-follows room front k d reached ds ts h =
+    state-whole room front (AliasName k d) (entries.Aliases k (d ++ ds)) ts reached (ds, (h, refl))
 
 name-expected : (room : Room) (q : State) (front : List Token) (k : Kind) (d : List Definition)
     → state_after room Start front ≡ Some q → DefinitionsFollow k d front → q ≡ AliasName k d
 name-expected room q front k d reached follows =
     let e : EntryBody = entries.Aliases k (d ++ sample ∷ []) in
-    named-here (with_room room e) k d q (form-front room q front sample_tokens e reached (follows (sample ∷ []) sample_tokens (sample-form k)))
+    named-here (with_room room e) k d q
+    (form-front room q front sample_tokens e reached (follows (sample ∷ []) sample_tokens (sample-form k)))
 
 -- a name one too many is not taken
 pub full-stops : (room : Room) (state : State) (front : List Token) (t : Token) → state_after room Start front ≡ Some state
