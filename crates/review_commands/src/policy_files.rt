@@ -72,6 +72,7 @@ fn masked_files<'a>(
         noted: true,
         netgroups,
         host,
+        addresses: None,
     };
     Ok(Masked::new(files, readable))
 }

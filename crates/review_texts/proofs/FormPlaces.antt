@@ -2,7 +2,7 @@
 use Rattle.std.proofs.Common.{◌≡◌, ℕ, zero, suc, ◌+◌, ◌-◌, ◌<◌, ◌≤◌, Bool, true, false, not, List, [], ◌∷◌}
 use Rattle.std.proofs.Common.{length, drop, refl, sym, ◌∙◌, subst}
 use Rattle.std.proofs.Common.{Option, None, Some, inl, inr, arith}
-use Rattle.std.specs.Prelude.{◌&&◌, ◌||◌, ◌==◌, if◌then◌else◌, codes, nat_eq, nat_lt, slice_index, MatchOption}
+use Rattle.std.specs.Prelude.{◌&&◌, ◌||◌, ◌==◌, if◌then◌else◌, codes, count_by, nat_eq, nat_le, nat_lt, slice_index, MatchOption}
 use Rattle.sudo_text.specs.Rules.{begins_defaults}
 use Rattle.std.specs.List.{starts_with, take_while}
 use Rattle.std.proofs.lemmas.Bool.{cases_lt, and_parts, true≢false}
@@ -14,6 +14,8 @@ use Rattle.sudo_grammar.specs.Words.{is_name_byte}
 use Rattle.sudo_grammar.specs.declared.fault.Unsupported.{Unsupported}
 use Rattle.sudo_grammar.specs.declared.fault.Unsupported.TheVariants as forms
 use Rattle.audit_files.specs.declared.netgroups.Triple.{Triple}
+use Rattle.review_texts.specs.declared.mask.Form.{Form}
+use Rattle.review_texts.specs.declared.mask.Form.TheVariants as what
 use Rattle.review_texts.specs.declared.mask.Mask.{Mask}
 use Rattle.review_texts.specs.declared.readable.Readable.{Readable}
 use Rattle.review_texts.specs.declared.netgroups.Group.{Group}
@@ -24,9 +26,13 @@ use Rattle.review_texts.specs.Digests.{may_follow as digest_may_follow, spells_d
 use Rattle.review_texts.specs.Expressions.{caret_of, dollar_of, expression_at, holds_expression, is_expression, is_file_at}
 use Rattle.review_texts.specs.Options.{is_option, name_at, equals_of, value_of, value_at, option_end, takes, spells_option}
 use Rattle.review_texts.specs.Hostnames.{spells_escape, StandsName}
-use Rattle.review_texts.specs.Places.{IsRefusedFor, spells_expression, spells_list, may_follow}
-use Rattle.review_texts.specs.Masks.{Stands, is_fit, IsFirstStand, IsMask, IsUnmasked, IsBehind, behind}
-use Rattle.review_texts.proofs.LoneLines.{one_form}
+use Rattle.review_texts.specs.Netgroups.{ends_item}
+use Rattle.review_texts.specs.Ipv6.{ipv6_end, is_ipv6_byte, lets_host_begin, run_at, spells_ipv6}
+use Rattle.review_texts.specs.Addressed.{StandsIpv6}
+use Rattle.review_texts.specs.declared.ipv6.HostAddress.{HostAddress}
+use Rattle.review_texts.specs.Places.{IsRefusedAs, spells_expression, spells_list, may_follow}
+use Rattle.review_texts.specs.Masks.{Stands, StandsAt, is_fit, IsFirstStand, IsMask, IsUnmasked, IsBehind, behind}
+use Rattle.review_texts.proofs.LoneLines.{one_refusal}
 
 no_name : (noted : Bool) → is_option noted [] ≡ false
 no_name true = refl
@@ -140,33 +146,53 @@ no_stand r line forms.NonUnixGroup start end put none stands =
 no_stand r line forms.RegularExpression start end put none stands = no_expression line.text start none stands.1.spelled
 no_stand r line forms.HostEscape start end put none stands = no_name_stands r.host line start end put none stands
 
+no_ipv6 : (text : List ℕ) (at : ℕ) → drop at text ≡ [] → spells_ipv6 text at ≡ true → ⊥
+unfolding spells_ipv6
+no_ipv6 text at none spelled =
+    let first = and_parts (is_ipv6_byte (slice_index text at) && lets_host_begin (slice_index text (at - 1)))
+    (ends_item text (ipv6_end text at) && nat_le (count_by (λ b. b == 58) (run_at text at)) 7
+    && not (begins_defaults text && (slice_index text at == 58))) spelled in
+    let second = and_parts (is_ipv6_byte (slice_index text at)) (lets_host_begin (slice_index text (at - 1))) first.0 in
+    let empty : is_ipv6_byte 0 ≡ true = subst (λ (b : ℕ). is_ipv6_byte b ≡ true) (past_end text at none) second.0 in
+    true≢false (sym empty)
+
+no_member_stands : (known : Option (List HostAddress)) (line : Line) (start end : ℕ) (put : List ℕ) → drop start line.text ≡ []
+    → StandsIpv6 known line start end put → ⊥
+no_member_stands None line start end put none stands = stands
+no_member_stands (Some known) line start end put none stands = no_ipv6 line.text start none stands.0.spelled
+
+none_at : (r : Readable) (line : Line) (form : Form) (start end : ℕ) (put : List ℕ) → drop start line.text ≡ []
+    → StandsAt r line form start end put → ⊥
+none_at r line (what.Named form) start end put none stands = no_stand r line form start end put none stands
+none_at r line what.Ipv6 start end put none stands = no_member_stands r.addresses line start end put none stands
+
 -- A form stands within the line.
-pub stands_within : (r : Readable) (line : Line) (form : Unsupported) (start end : ℕ) (put : List ℕ) → Stands r line form start end put
+pub stands_within : (r : Readable) (line : Line) (form : Form) (start end : ℕ) (put : List ℕ) → StandsAt r line form start end put
     → start < length line.text
 stands_within r line form start end put stands = elim (cases_lt start (length line.text)) [
   | inl below ↦ below
-  | inr past ↦ absurd (no_stand r line form start end put (drop_of_length-le line.text past) stands)
+  | inr past ↦ absurd (none_at r line form start end put (drop_of_length-le line.text past) stands)
 ]
 
 -- The masks of a line, by what it is refused for.
 pub unfit : (r : Readable) (line : Line) → is_fit line ≡ false → IsUnmasked r line
 unfit r line bad mask is = true≢false (sym is.fit ∙ bad)
 
-pub unrefused : (r : Readable) (line : Line) → ((form : Unsupported) → IsRefusedFor line form → ⊥) → IsUnmasked r line
+pub unrefused : (r : Readable) (line : Line) → ((form : Form) → IsRefusedAs line form → ⊥) → IsUnmasked r line
 unrefused r line none mask is = none mask.form is.refused
 
-abbrev pub FoundStand : Readable → Line → Unsupported → Option Mask → Type 0
+abbrev pub FoundStand : Readable → Line → Form → Option Mask → Type 0
 FoundStand r line form found =
-    MatchOption found ((start end : ℕ) (put : List ℕ) → Stands r line form start end put → ⊥) (λ mask. IsFirstStand r line form mask)
+    MatchOption found ((start end : ℕ) (put : List ℕ) → StandsAt r line form start end put → ⊥) (λ mask. IsFirstStand r line form mask)
 
-pub masked_by : (r : Readable) (line : Line) (form : Unsupported) (found : Option Mask) → is_fit line ≡ true → IsRefusedFor line form
+pub masked_by : (r : Readable) (line : Line) (form : Form) (found : Option Mask) → is_fit line ≡ true → IsRefusedAs line form
     → FoundStand r line form found → MatchOption found (IsUnmasked r line) (λ mask. IsMask r line mask)
 masked_by r line form None fit refused none = λ mask is.
-    let same : mask.form ≡ form = one_form line mask.form form is.refused refused in
-    none mask.start mask.end mask.put (subst (λ f. Stands r line f mask.start mask.end mask.put) same is.stands.stands)
+    let same : mask.form ≡ form = one_refusal line mask.form form is.refused refused in
+    none mask.start mask.end mask.put (subst (λ f. StandsAt r line f mask.start mask.end mask.put) same is.stands.stands)
 masked_by r line form (Some mask) fit refused stand = record {
   fit = fit;
-  refused = subst (IsRefusedFor line) (sym stand.named) refused;
+  refused = subst (IsRefusedAs line) (sym stand.named) refused;
   stands = subst (λ f. IsFirstStand r line f mask) (sym stand.named) stand;
 }
 

@@ -8,12 +8,14 @@ use Rattle.sudo_text.specs.declared.line.Line.{Line}
 use Rattle.sudo_grammar.specs.declared.fault.Unsupported.{Unsupported}
 use Rattle.sudo_grammar.specs.declared.fault.Unsupported.TheVariants as forms
 use Rattle.sudo_match.specs.Matching.{short_name}
+use Rattle.review_texts.specs.declared.mask.Form.{Form}
+use Rattle.review_texts.specs.declared.mask.Form.TheVariants as what
 use Rattle.review_texts.specs.declared.mask.Mask.{Mask}
 use Rattle.review_texts.specs.declared.readable.Readable.{Readable}
-use Rattle.review_texts.specs.Places.{IsRefusedFor}
+use Rattle.review_texts.specs.Places.{IsRefusedAs, IsRefusedFor}
 use Rattle.review_texts.specs.Hostnames.{are_labels, is_hostname, is_label_byte, named_text, StandsName}
 use Rattle.review_texts.specs.Laws.{on_host}
-use Rattle.review_texts.specs.Masks.{Stands, IsFirstStand, IsMask, IsUnmasked, IsBehind, IsMasked, behind, most_masks}
+use Rattle.review_texts.specs.Masks.{Stands, StandsAt, IsFirstStand, IsMask, IsUnmasked, IsBehind, IsMasked, behind, most_masks}
 
 -- ---- What stands
 
@@ -75,41 +77,53 @@ stands_before r host line forms.NonUnixGroup start end put other stands = stands
 stands_before r host line forms.RegularExpression start end put other stands = stands
 stands_before r host line forms.HostEscape start end put other stands = absurd (other refl)
 
-mask_too : (r : Readable) (host : Option (List ℕ)) (line : Line) (mask : Mask) → (mask.form ≡ forms.HostEscape → ⊥)
+form_too : (r : Readable) (host : Option (List ℕ)) (line : Line) (form : Form) (start end : ℕ) (put : List ℕ)
+    → (form ≡ what.Named forms.HostEscape → ⊥) → StandsAt r line form start end put → StandsAt (on_host host r) line form start end put
+form_too r host line (what.Named form) start end put other stands =
+    stands_too r host line form start end put (λ e. other (ap what.Named e)) stands
+form_too r host line what.Ipv6 start end put other stands = stands
+
+form_before : (r : Readable) (host : Option (List ℕ)) (line : Line) (form : Form) (start end : ℕ) (put : List ℕ)
+    → (form ≡ what.Named forms.HostEscape → ⊥) → StandsAt (on_host host r) line form start end put → StandsAt r line form start end put
+form_before r host line (what.Named form) start end put other stands =
+    stands_before r host line form start end put (λ e. other (ap what.Named e)) stands
+form_before r host line what.Ipv6 start end put other stands = stands
+
+mask_too : (r : Readable) (host : Option (List ℕ)) (line : Line) (mask : Mask) → (mask.form ≡ what.Named forms.HostEscape → ⊥)
     → IsMask r line mask → IsMask (on_host host r) line mask
 mask_too r host line mask other is = record {
   fit = is.fit;
   refused = is.refused;
   stands = record {
     named = is.stands.named;
-    stands = stands_too r host line mask.form mask.start mask.end mask.put other is.stands.stands;
+    stands = form_too r host line mask.form mask.start mask.end mask.put other is.stands.stands;
     first = λ start end put before stands.
-        is.stands.first start end put before (stands_before r host line mask.form start end put other stands);
+        is.stands.first start end put before (form_before r host line mask.form start end put other stands);
   };
 }
 
-mask_before : (r : Readable) (host : Option (List ℕ)) (line : Line) (mask : Mask) → (mask.form ≡ forms.HostEscape → ⊥)
+mask_before : (r : Readable) (host : Option (List ℕ)) (line : Line) (mask : Mask) → (mask.form ≡ what.Named forms.HostEscape → ⊥)
     → IsMask (on_host host r) line mask → IsMask r line mask
 mask_before r host line mask other is = record {
   fit = is.fit;
   refused = is.refused;
   stands = record {
     named = is.stands.named;
-    stands = stands_before r host line mask.form mask.start mask.end mask.put other is.stands.stands;
+    stands = form_before r host line mask.form mask.start mask.end mask.put other is.stands.stands;
     first = λ start end put before stands.
-        is.stands.first start end put before (stands_too r host line mask.form start end put other stands);
+        is.stands.first start end put before (form_too r host line mask.form start end put other stands);
   };
 }
 
 pub unmasked_too : (r : Readable) (host : Option (List ℕ)) (line : Line) → r.host ≡ None
     → (IsRefusedFor line forms.HostEscape → ⊥) → IsUnmasked r line → IsUnmasked (on_host host r) line
 unmasked_too r host line none other unmasked = λ mask is.
-    unmasked mask (mask_before r host line mask (λ e. other (subst (IsRefusedFor line) e is.refused)) is)
+    unmasked mask (mask_before r host line mask (λ e. other (subst (IsRefusedAs line) e is.refused)) is)
 
 -- Without a host no mask is one of `%h`.
-no_escape : (r : Readable) (line : Line) (mask : Mask) → r.host ≡ None → IsMask r line mask → mask.form ≡ forms.HostEscape → ⊥
+no_escape : (r : Readable) (line : Line) (mask : Mask) → r.host ≡ None → IsMask r line mask → mask.form ≡ what.Named forms.HostEscape → ⊥
 no_escape r line mask none is e =
-    let stands = subst (λ form. Stands r line form mask.start mask.end mask.put) e is.stands.stands in
+    let stands = subst (λ form. StandsAt r line form mask.start mask.end mask.put) e is.stands.stands in
     subst (λ host. StandsName host line mask.start mask.end mask.put) none stands
 
 behind_too : (r : Readable) (host : Option (List ℕ)) (n : ℕ) (line masked : Line) → r.host ≡ None

@@ -15,7 +15,7 @@ use Rattle.review_texts.specs.Places.{whole_room}
 use Rattle.review_texts.specs.Masks.{IsUnmasked}
 use Rattle.review_texts.specs.MaskedTexts.{written, HasEntries, IsBlock, AreBlocks, IsTextBy, IsMaskedBy, IsMaskedText}
 use Rattle.review_texts.specs.Words.{has_word}
-use Rattle.review_texts.proofs.LoneLines.{read_unrefused}
+use Rattle.review_texts.proofs.LoneLines.{read_unrefused_as}
 use Rattle.review_texts.proofs.Blocks.{take_written}
 
 -- An entry within the room that is left is one within the whole room.
@@ -35,7 +35,7 @@ read_alone before line (Some entry) (t, ts, spelled, writes) =
 unmasked : (r : Readable) (before : List Entry) (line : Line) (entry : Option EntryBody)
     → IsEntryOf (room_after before) line entry → IsUnmasked r line
 unmasked r before line entry is mask masks =
-    read_unrefused line (entry_of line entry ++ []) mask.form
+    read_unrefused_as line (entry_of line entry ++ []) mask.form
     (entry, [], read_alone before line entry is, refl, refl) masks.refused
 
 has_entries : (before : List Entry) (line : Line) (entry : Option EntryBody) → IsEntryOf (room_after before) line entry

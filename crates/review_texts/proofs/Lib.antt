@@ -1,6 +1,8 @@
 pub mod Fronts
 pub mod LoneLines
 pub mod MemberLists
+pub mod Groups
+pub mod HostLists
 pub mod FormPlaces
 pub mod Blocks
 pub mod Kept

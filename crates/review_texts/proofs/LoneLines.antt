@@ -6,6 +6,7 @@ use Rattle.sudo_text.specs.declared.line.Line.{Line}
 use Rattle.sudo_text.specs.declared.line.Place.{Place}
 use Rattle.sudo_grammar.specs.declared.policy.Entry.{Entry}
 use Rattle.sudo_grammar.specs.declared.policy.EntryBody.{EntryBody}
+use Rattle.sudo_grammar.specs.declared.fault.Expected.{Expected}
 use Rattle.sudo_grammar.specs.declared.fault.ParseFault.{ParseFault}
 use Rattle.sudo_grammar.specs.declared.fault.ParseFault.TheVariants as faults
 use Rattle.sudo_grammar.specs.declared.fault.Refusal.{Refusal}
@@ -13,7 +14,10 @@ use Rattle.sudo_grammar.specs.declared.fault.Refusal.TheVariants as refusals
 use Rattle.sudo_grammar.specs.declared.fault.Unsupported.{Unsupported}
 use Rattle.sudo_parser.specs.Parsed.{AreEntries, IsFirstFault, IsGrammarFaultOf, fault_at, column}
 use Rattle.sudo_parser.proofs.OneReading.{one_entries, one_first_fault, entries-no-fault}
-use Rattle.review_texts.specs.Places.{whole_room, IsBadNumberAt, IsEntryIn, IsRefusedFor}
+use Rattle.review_texts.specs.declared.mask.Form.{Form}
+use Rattle.review_texts.specs.declared.mask.Form.TheVariants as what
+use Rattle.review_texts.specs.Body.Faults.{IsFormOf}
+use Rattle.review_texts.specs.Places.{whole_room, IsBadNumberAt, IsEntryIn, IsRefusedAs, IsRefusedFor}
 
 -- The entries of a line that stands alone.
 pub entries_of : (line : Line) (entry : EntryBody) → IsEntryIn line entry
@@ -123,6 +127,69 @@ read_unrefused line entries form are refusal =
 -- A line is refused for one form.
 pub one_form : (line : Line) (a b : Unsupported) → IsRefusedFor line a → IsRefusedFor line b → a ≡ b
 one_form line a b is other = let same = same_fault line (faults.Unsupported line.first a) b (fault_of line a is) other in cc
+
+-- The same of what can be masked.
+syntax_of : (line : Line) (column : ℕ) (expected : Expected)
+    → IsGrammarFaultOf whole_room line (faults.Syntax line.first column expected)
+    → IsFirstFault (line ∷ []) (faults.Syntax line.first column expected)
+syntax_of line column expected is = inl (inr is)
+
+spelled_at : (first place : Place) (col column : ℕ) (expected : Expected) (refusal : Refusal)
+    → faults.Syntax place column expected ≡ fault_at first col refusal → place ≡ first
+spelled_at first place col column expected (refusals.Syntax other) e = cc
+spelled_at first place col column expected (refusals.Unsupported what) e = cc
+spelled_at first place col column expected refusals.NotCommand e = cc
+spelled_at first place col column expected refusals.BadNumber e = cc
+spelled_at first place col column expected refusals.TooMany e = cc
+
+syntax_refused : (line : Line) (place : Place) (col : ℕ) (expected : Expected)
+    → IsFirstFault (line ∷ []) (faults.Syntax place col expected) → IsRefusedAs line what.Ipv6
+syntax_refused line place col expected (inl (inl text)) = let e = text.is in absurd cc
+syntax_refused line place col expected (inl (inr grammar)) =
+    let at : place ≡ line.first =
+    spelled_at line.first place (column line grammar.stop.rest) col expected grammar.stop.refusal grammar.is in
+    (col, expected, subst (λ p. IsGrammarFaultOf whole_room line (faults.Syntax p col expected)) at grammar)
+syntax_refused line place col expected (inr (entry, says, never)) = absurd never
+
+-- the fault of a line that is refused so
+fault_as : (line : Line) (form : Form) → IsRefusedAs line form → (fault : ParseFault) × IsFirstFault (line ∷ []) fault × IsFormOf fault form
+fault_as line (what.Named form) is = (faults.Unsupported line.first form, fault_of line form is, (line.first, refl))
+fault_as line what.Ipv6 (col, expected, is) =
+    (faults.Syntax line.first col expected, syntax_of line col expected is, (line.first, col, expected, refl))
+
+refused_as : (line : Line) (fault : ParseFault) (form : Form) → IsFirstFault (line ∷ []) fault → IsFormOf fault form
+    → IsRefusedAs line form
+refused_as line fault (what.Named form) is (place, e) = refused line place form (subst (IsFirstFault (line ∷ [])) e is)
+refused_as line fault what.Ipv6 is (place, col, expected, e) =
+    syntax_refused line place col expected (subst (IsFirstFault (line ∷ [])) e is)
+
+one_form_of : (fault : ParseFault) (a b : Form) → IsFormOf fault a → IsFormOf fault b → a ≡ b
+one_form_of fault (what.Named a) (what.Named b) (place, is) (other, same) = cc
+one_form_of fault (what.Named a) what.Ipv6 (place, is) (other, col, expected, same) = absurd cc
+one_form_of fault what.Ipv6 (what.Named b) (place, col, expected, is) (other, same) = absurd cc
+one_form_of fault what.Ipv6 what.Ipv6 is same = refl
+
+-- A line is refused as one thing that can be masked, and one that is read as none.
+pub one_refusal : (line : Line) (a b : Form) → IsRefusedAs line a → IsRefusedAs line b → a ≡ b
+one_refusal line a b is other =
+    let first = fault_as line a is in
+    let second = fault_as line b other in
+    let same : first.0 ≡ second.0 = one_first_fault [] (line ∷ []) first.0 second.0 first.1 second.1 in
+    one_form_of second.0 a b (subst (λ (fault : ParseFault). IsFormOf fault a) same first.2) second.2
+
+pub read_unrefused_as : (line : Line) (entries : List Entry) (form : Form) → AreEntries (line ∷ []) entries → IsRefusedAs line form → ⊥
+read_unrefused_as line entries form are is =
+    let fault = fault_as line form is in
+    entries-no-fault [] (line ∷ []) entries fault.0 are fault.1
+
+pub form_found_as : (line : Line) (fault : ParseFault) (found : Option Form) → IsFirstFault (line ∷ []) fault
+    → MatchOption found ((form : Form) → IsFormOf fault form → ⊥) (λ form. IsFormOf fault form)
+    → MatchOption found ((form : Form) → IsRefusedAs line form → ⊥) (λ form. IsRefusedAs line form)
+form_found_as line fault None is says = λ form refusal.
+    let other = fault_as line form refusal in
+    let same : other.0 ≡ fault = one_first_fault [] (line ∷ []) other.0 fault other.1 is in
+    says form (subst (λ (fault : ParseFault). IsFormOf fault form) same other.2)
+form_found_as line fault (Some form) is says = refused_as line fault form is says
 
 abbrev pub FoundForm : Line → Option Unsupported → Type 0
 FoundForm line found = MatchOption found ((form : Unsupported) → IsRefusedFor line form → ⊥) (λ form. IsRefusedFor line form)

@@ -26,7 +26,11 @@ use Rattle.review_texts.specs.Options.{is_value_byte, name_at, value_at, value_o
 use Rattle.review_texts.specs.Masks.{are_alike, expression_text, is_fit, option_note, note_text, noted_letter, noted_option}
 use Rattle.sudo_match.specs.Matching.{short_name}
 use Rattle.review_texts.specs.Hostnames.{are_labels, is_hostname, is_label_byte, StandsName}
-use Rattle.review_texts.specs.Masks.{replacement, Stands}
+use Rattle.review_texts.specs.Addressed.{StandsIpv6}
+use Rattle.review_texts.specs.declared.ipv6.HostAddress.{HostAddress}
+use Rattle.review_texts.specs.declared.mask.Form.{Form}
+use Rattle.review_texts.specs.declared.mask.Form.TheVariants as what
+use Rattle.review_texts.specs.Masks.{replacement, Stands, StandsAt}
 use Rattle.review_texts.specs.Masks.{behind, IsBehind, IsMask, IsMasked, most_masks}
 use Rattle.review_texts.specs.MaskedTexts.{written, tears_defaults, spaced, IsBlock, AreBlocks, IsTextBy, IsMaskedBy, IsMaskedText}
 use Rattle.review_texts.specs.Words.{has_word, newline_count}
@@ -210,6 +214,16 @@ count_put r line forms.NonUnixGroup start end put none stands = stands.0.one_lin
 count_put r line forms.RegularExpression start end put none stands = ap newline_count stands.3 ∙ count_expression line.text start
 count_put r line forms.HostEscape start end put none stands = count_named r.host line start end put none stands
 
+count_member : (known : Option (List HostAddress)) (line : Line) (start end : ℕ) (put : List ℕ)
+    → StandsIpv6 known line start end put → newline_count put ≡ 0
+count_member None line start end put stands = absurd stands
+count_member (Some known) line start end put stands = stands.0.one_line
+
+count_at : (r : Readable) (line : Line) (form : Form) (start end : ℕ) (put : List ℕ) → newline_count line.text ≡ 0
+    → StandsAt r line form start end put → newline_count put ≡ 0
+count_at r line (what.Named form) start end put none stands = count_put r line form start end put none stands
+count_at r line what.Ipv6 start end put none stands = count_member r.addresses line start end put stands
+
 count_replaced : (mask : Mask) → newline_count mask.put ≡ 0 → newline_count (replacement mask) ≡ 0
 count_replaced mask front =
     let back = count_blanks (mask.end - mask.start - length mask.put) in
@@ -227,7 +241,7 @@ behind_count r line mask none is =
     let second = ap (λ (xs : List ℕ). newline_count xs) (take-append-drop mask.end line.text) in
     let outer = count_append (take mask.start line.text) (put ++ drop mask.end line.text) in
     let inner = count_append put (drop mask.end line.text) in
-    let middle = count_replaced mask (count_put r line mask.form mask.start mask.end mask.put none is.stands.stands) in
+    let middle = count_replaced mask (count_at r line mask.form mask.start mask.end mask.put none is.stands.stands) in
     omega (arith, front, back, first, second, outer, inner, middle)
 
 all_behind : (r : Readable) (n : ℕ) (line masked : Line) → newline_count line.text ≡ 0 → IsBehind r n line masked

@@ -8,14 +8,18 @@ use Rattle.sudo_text.specs.Lines.{lines_of}
 use Rattle.sudo_grammar.specs.declared.fault.Unsupported.{Unsupported}
 use Rattle.sudo_grammar.specs.declared.fault.Unsupported.TheVariants as forms
 use Rattle.review_texts.specs.declared.readable.Readable.{Readable}
+use Rattle.review_texts.specs.declared.mask.Form.{Form}
+use Rattle.review_texts.specs.declared.mask.Form.TheVariants as what
 use Rattle.review_texts.specs.declared.mask.Mask.{Mask}
+use Rattle.review_texts.specs.declared.ipv6.HostAddress.{HostAddress}
 use Rattle.review_texts.specs.declared.netgroups.Group.TheVariants.{Net, NonUnix}
 use Rattle.review_texts.proofs.MemberLists.{one_members}
 use Rattle.review_texts.specs.Hostnames.{StandsName}
-use Rattle.review_texts.specs.Masks.{Stands, behind, IsMask, IsBehind, IsMasked, most_masks}
+use Rattle.review_texts.specs.Addressed.{StandsIpv6}
+use Rattle.review_texts.specs.Masks.{Stands, StandsAt, behind, IsMask, IsBehind, IsMasked, most_masks}
 use Rattle.review_texts.specs.MaskedTexts.{written, IsBlock, IsBlockBy, IsPlainBlock, AreBlocks, IsTextBy, IsMaskedBy, IsMaskedText}
 use Rattle.review_texts.specs.Words.{has_word}
-use Rattle.review_texts.proofs.LoneLines.{one_form}
+use Rattle.review_texts.proofs.LoneLines.{one_refusal}
 
 one_name_standing : (host : Option (List ℕ)) (line : Line) (start end stop : ℕ) (put other : List ℕ)
     → StandsName host line start end put → StandsName host line start stop other → (end ≡ stop) × (put ≡ other)
@@ -40,22 +44,36 @@ one_standing r line forms.RegularExpression start end stop put other (on, stands
 one_standing r line forms.HostEscape start end stop put other stands again =
     one_name_standing r.host line start end stop put other stands again
 
+one_member_standing : (known : Option (List HostAddress)) (line : Line) (start end stop : ℕ) (put other : List ℕ)
+    → StandsIpv6 known line start end put → StandsIpv6 known line start stop other → (end ≡ stop) × (put ≡ other)
+one_member_standing None line start end stop put other stands again = absurd stands
+one_member_standing (Some known) line start end stop put other (stands, is) (again, same) =
+    let both : Some put ≡ Some other = sym stands.list ∙ again.list in
+    (is ∙ sym same, cc)
+
+one_stand : (r : Readable) (line : Line) (form : Form) (start end stop : ℕ) (put other : List ℕ)
+    → StandsAt r line form start end put → StandsAt r line form start stop other → (end ≡ stop) × (put ≡ other)
+one_stand r line (what.Named form) start end stop put other stands again =
+    one_standing r line form start end stop put other stands again
+one_stand r line what.Ipv6 start end stop put other stands again =
+    one_member_standing r.addresses line start end stop put other stands again
+
 not_before : (r : Readable) (line : Line) (a b : Mask) → IsMask r line a → IsMask r line b → a.form ≡ b.form → b.start ≤ a.start
 not_before r line a b is other same = elim (cases_lt a.start b.start) [
   | inl before ↦ absurd (other.stands.first a.start a.end a.put before
-      (subst (λ f. Stands r line f a.start a.end a.put) same is.stands.stands))
+      (subst (λ f. StandsAt r line f a.start a.end a.put) same is.stands.stands))
   | inr behind ↦ behind
 ]
 
 one_mask : (r : Readable) (line : Line) (a b : Mask) → IsMask r line a → IsMask r line b → a ≡ b
 one_mask r line a b is other =
-    let form : a.form ≡ b.form = one_form line a.form b.form is.refused other.refused in
+    let form : a.form ≡ b.form = one_refusal line a.form b.form is.refused other.refused in
     let low : b.start ≤ a.start = not_before r line a b is other form in
     let high : a.start ≤ b.start = not_before r line b a other is (sym form) in
     let start : a.start ≡ b.start = omega arith in
-    let moved : Stands r line b.form b.start a.end a.put = subst (λ (n : ℕ). Stands r line b.form n a.end a.put) start
-    (subst (λ f. Stands r line f a.start a.end a.put) form is.stands.stands) in
-    let same = one_standing r line b.form b.start a.end b.end a.put b.put moved other.stands.stands in
+    let moved : StandsAt r line b.form b.start a.end a.put = subst (λ (n : ℕ). StandsAt r line b.form n a.end a.put) start
+    (subst (λ f. StandsAt r line f a.start a.end a.put) form is.stands.stands) in
+    let same = one_stand r line b.form b.start a.end b.end a.put b.put moved other.stands.stands in
     λ i. record { form = form i; start = start i; end = same.0 i; put = same.1 i }
 
 one_behind : (r : Readable) (n : ℕ) (line a b : Line) → IsBehind r n line a → IsBehind r n line b → a ≡ b

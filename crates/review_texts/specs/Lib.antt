@@ -8,6 +8,8 @@ pub mod Hostnames
 pub mod Masks
 pub mod Notes
 pub mod Netgroups
+pub mod Ipv6
+pub mod Addressed
 pub mod MaskedTexts
 pub mod Laws
 pub mod Body

@@ -10,6 +10,8 @@ use Rattle.sudo_text.specs.Bytes.{is_blank}
 use Rattle.sudo_text.specs.Lines.{text_limit}
 use Rattle.sudo_grammar.specs.declared.fault.Unsupported.{Unsupported}
 use Rattle.sudo_grammar.specs.declared.fault.Unsupported.TheVariants as forms
+use Rattle.review_texts.specs.declared.mask.Form.{Form}
+use Rattle.review_texts.specs.declared.mask.Form.TheVariants as what
 use Rattle.review_texts.specs.declared.mask.Mask.{Mask}
 use Rattle.review_texts.specs.declared.readable.Readable.{Readable}
 use Rattle.review_texts.specs.Words.{has_word, newline_count}
@@ -21,9 +23,10 @@ use Rattle.review_texts.specs.Digests.{digest_at, digest_end, digest_start}
 use Rattle.review_texts.specs.Expressions.{command_at, dollar_of, expression_at, hex_of}
 use Rattle.review_texts.specs.Netgroups.{group_end}
 use Rattle.review_texts.specs.Hostnames.{StandsName}
+use Rattle.review_texts.specs.Addressed.{StandsIpv6}
 use Rattle.review_texts.specs.declared.netgroups.Group.{Group}
 use Rattle.review_texts.specs.declared.netgroups.Group.TheVariants.{Net, NonUnix}
-use Rattle.review_texts.specs.Places.{IsRefusedFor, with_text, no_path}
+use Rattle.review_texts.specs.Places.{IsRefusedAs, with_text, no_path}
 use Rattle.review_texts.specs.Places.{StandsOption, StandsList, StandsDigest, StandsExpression, StandsGroup}
 
 -- the note of an option
@@ -82,6 +85,11 @@ Stands r line forms.RegularExpression start end put =
     (r.noted ≡ true) × StandsExpression line start × (end ≡ dollar_of line.text start + 1) × (put ≡ expression_text line.text start)
 Stands r line forms.HostEscape start end put = StandsName r.host line start end put
 
+-- the same of what can be masked: a form that is refused by name, or an IPv6 address, for which the hosts stand that have it
+abbrev pub StandsAt : Readable → Line → Form → ℕ → ℕ → List ℕ → Type 0
+StandsAt r line (what.Named form) start end put = Stands r line form start end put
+StandsAt r line what.Ipv6 start end put = StandsIpv6 r.addresses line start end put
+
 -- two physical lines are joined where neither a blank nor a comma stands before the join, or an escaped one, or where a
 -- colon stands behind it: sudo may separate words there, or want both on one line
 abbrev pub is_tight : List ℕ → ℕ → Bool
@@ -107,15 +115,15 @@ is_fit line =
     has_word line.text && are_alike line.text line.joins && nat_le (length line.text) (text_limit - 16) && (newline_count line.text == 0)
 
 -- the first place at which a form stands
-pub record IsFirstStand (r : Readable) (line : Line) (form : Unsupported) (mask : Mask) : Type 0 where
+pub record IsFirstStand (r : Readable) (line : Line) (form : Form) (mask : Mask) : Type 0 where
   pub named : mask.form ≡ form
-  pub stands : Stands r line form mask.start mask.end mask.put
-  pub first : (start end : ℕ) (put : List ℕ) → start < mask.start → Stands r line form start end put → ⊥
+  pub stands : StandsAt r line form mask.start mask.end mask.put
+  pub first : (start end : ℕ) (put : List ℕ) → start < mask.start → StandsAt r line form start end put → ⊥
 
 -- the mask of a line: for the form that the line is refused for, where it first stands
 pub record IsMask (r : Readable) (line : Line) (mask : Mask) : Type 0 where
   pub fit : is_fit line ≡ true
-  pub refused : IsRefusedFor line mask.form
+  pub refused : IsRefusedAs line mask.form
   pub stands : IsFirstStand r line mask.form mask
 
 -- the line has no mask

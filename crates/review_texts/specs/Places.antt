@@ -15,6 +15,7 @@ use Rattle.sudo_grammar.specs.declared.policy.Runas.{Runas}
 use Rattle.sudo_grammar.specs.declared.policy.EntryBody.{EntryBody}
 use Rattle.sudo_grammar.specs.declared.policy.EntryBody.TheVariants as entries
 use Rattle.sudo_grammar.specs.declared.fault.ParseFault.TheVariants as faults
+use Rattle.sudo_grammar.specs.declared.fault.Expected.{Expected}
 use Rattle.sudo_grammar.specs.declared.fault.Unsupported.{Unsupported}
 use Rattle.sudo_grammar.specs.Faults.{Room}
 use Rattle.sudo_parser.specs.Parsed.{room_after, IsEntryOf, IsGrammarFaultOf}
@@ -23,6 +24,8 @@ use Rattle.review_texts.specs.Digests.{spells_digest}
 use Rattle.review_texts.specs.Expressions.{dollar_of, holds_expression}
 use Rattle.review_texts.specs.Words.{newline_count}
 use Rattle.review_texts.specs.Netgroups.{group_at, list_for, sign_at, spells_group}
+use Rattle.review_texts.specs.declared.mask.Form.{Form}
+use Rattle.review_texts.specs.declared.mask.Form.TheVariants as what
 use Rattle.review_texts.specs.declared.netgroups.Group.{Group}
 use Rattle.review_texts.specs.declared.netgroups.Group.TheVariants.{Net, NonUnix}
 use Rattle.review_texts.specs.declared.netgroups.Members.{Members}
@@ -40,6 +43,12 @@ IsEntryIn line entry = IsEntryOf whole_room line (Some entry)
 -- the line, by itself, is refused for the form by name, as unsupported
 abbrev pub IsRefusedFor : Line → Unsupported → Type 0
 IsRefusedFor line form = IsGrammarFaultOf whole_room line (faults.Unsupported line.first form)
+
+-- the line, by itself, is refused for something that can be masked: a form by name, or what may be an IPv6 address as a syntax error
+abbrev pub IsRefusedAs : Line → Form → Type 0
+IsRefusedAs line (what.Named form) = IsRefusedFor line form
+IsRefusedAs line what.Ipv6 =
+    (column : ℕ) × (expected : Expected) × IsGrammarFaultOf whole_room line (faults.Syntax line.first column expected)
 
 -- the text, without joins, at the place of the line
 abbrev pub with_text : Line → List ℕ → Line

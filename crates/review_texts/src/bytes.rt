@@ -28,6 +28,13 @@ pub(crate) fn is_digit(byte: u8) -> bool
     b'0' <= byte && byte <= b'9'
 }
 
+/// Whether a byte is a hexadecimal digit.
+pub(crate) fn is_hex(byte: u8) -> bool
+    ensures { result ≡ spec.is_hex byte }
+{
+    is_digit(byte) || (b'a' <= byte && byte <= b'f') || (b'A' <= byte && byte <= b'F')
+}
+
 /// Whether a byte is one of `! = , : ( )`.
 pub(crate) fn is_mark_byte(byte: u8) -> bool
     ensures { result ≡ pieces.is_mark_byte byte }

@@ -14,8 +14,8 @@ use std::alloc::{AllocError, Global};
 use sudo_grammar::EntryBody;
 use sudo_text::{Line, Seq, TEXT_LIMIT};
 
-// Whether a member of a list of users is read at an offset.
-fn takes_user(alloc: Global, line: &Line, at: usize) -> Result<bool, AllocError>
+/// Whether a member of a list of users is read at an offset. Returns `AllocError` if allocation fails.
+pub(crate) fn takes_user(alloc: Global, line: &Line, at: usize) -> Result<bool, AllocError>
     requires within { at ≤ length line.now.text }
     requires short { length line.now.text + 16 ≤ TEXT_LIMIT }
     ensures { IfOk result (λ takes. Decides takes (spec.TakesUser line.now at)) }
@@ -24,8 +24,8 @@ fn takes_user(alloc: Global, line: &Line, at: usize) -> Result<bool, AllocError>
     is_bad_number(alloc, &front, at)
 }
 
-// Whether a member of a list of hosts is read at an offset.
-fn takes_host(alloc: Global, line: &Line, at: usize) -> Result<bool, AllocError>
+/// Whether a member of a list of hosts is read at an offset. Returns `AllocError` if allocation fails.
+pub(crate) fn takes_host(alloc: Global, line: &Line, at: usize) -> Result<bool, AllocError>
     requires within { at ≤ length line.now.text }
     requires short { length line.now.text + 16 ≤ TEXT_LIMIT }
     ensures { IfOk result (λ takes. Decides takes (spec.TakesHost line.now at)) }

@@ -2,16 +2,15 @@
 ghost use Rattle.std.specs.Prelude.{◌≡◌, ℕ, ◌≤◌, ◌<◌, ◌+◌, ◌++◌, List, length, IfOk, OnOk, MatchOption, IsTrue};
 ghost use Rattle.std.specs.List.{list_any};
 ghost use Rattle.review_texts.specs.Masks as spec;
-ghost use Rattle.review_texts.specs.Masks.{Stands, IsFirstStand, IsMask, IsUnmasked, IsMasked, IsBehind};
+ghost use Rattle.review_texts.specs.Masks.{StandsAt, IsFirstStand, IsMask, IsUnmasked, IsMasked, IsBehind};
 
 use crate::bytes::{from, has_byte, is_blank, is_text, newline_count, peek};
 use crate::places::{NO_PATH, with_text};
-use crate::reading::refused_form;
+use crate::reading::refused_as;
 use crate::standing::{Standing, stands};
 use crate::words::has_word;
-use crate::{Mask, Readable};
+use crate::{Form, Mask, Readable};
 use std::alloc::{AllocError, Global};
-use sudo_grammar::Unsupported;
 use sudo_text::{Line, Seq, TEXT_LIMIT};
 
 // The most masks of a line, after its first.
@@ -77,11 +76,11 @@ fn first_stand(
     alloc: Global,
     readable: &Readable,
     line: &Line,
-    form: Unsupported,
+    form: Form,
 ) -> Result<Option<Mask>, AllocError>
     requires { length line.now.text + 16 ≤ TEXT_LIMIT }
     ensures { IfOk result (λ found. MatchOption found
-        ((start end : ℕ) (put : List ℕ) → Stands readable.now line.now form start end put → ⊥)
+        ((start end : ℕ) (put : List ℕ) → StandsAt readable.now line.now form start end put → ⊥)
         (λ mask. IsFirstStand readable.now line.now form mask)) }
 {
     for at in 0..line.text.len() {
@@ -106,7 +105,7 @@ pub fn mask_of(alloc: Global, readable: &Readable, line: &Line) -> Result<Option
     if !is_fit(line) {
         return Ok(None);
     }
-    let Some(form) = refused_form(alloc, line)? else {
+    let Some(form) = refused_as(alloc, line)? else {
         return Ok(None);
     };
     let found = first_stand(alloc, readable, line, form)?;

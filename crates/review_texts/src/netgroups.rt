@@ -58,8 +58,8 @@ fn has_name_bytes(name: &[u8]) -> bool
     name.iter().all(|byte| is_name_byte(*byte))
 }
 
-// Returns a host as a member of a list.
-fn host_text(alloc: Global, name: &[u8]) -> Result<Seq<u8>, AllocError>
+/// Returns a host as a member of a list.
+pub(crate) fn host_text(alloc: Global, name: &[u8]) -> Result<Seq<u8>, AllocError>
     ensures { IfOk result (λ text. text ≡ spec.host_text name.now) }
 {
     if !(begins_upper(name) && has_name_bytes(name)) {
@@ -118,8 +118,12 @@ fn member_of(
     member_for(alloc, kind, field_in(kind, triple))
 }
 
-// Appends a member to a list, behind a comma and this sign if it is not the first.
-fn push_member(sign: &[u8], member: Seq<u8>, list: &mut Seq<u8>) -> Result<(), AllocError>
+/// Appends a member to a list, behind a comma and this sign if it is not the first.
+pub(crate) fn push_member(
+    sign: &[u8],
+    member: Seq<u8>,
+    list: &mut Seq<u8>,
+) -> Result<(), AllocError>
     ensures { OnOk result (list.new ≡ spec.with_member sign.now list.old member) }
 {
     if !list.is_empty() {
@@ -166,8 +170,8 @@ fn members_of(
     Ok(list)
 }
 
-// Returns what stands for a group without members.
-fn nobody(kind: Members) -> &'static [u8]
+/// Returns what stands for a group without members.
+pub(crate) fn nobody(kind: Members) -> &'static [u8]
     ensures { result.now ≡ spec.nobody kind }
 {
     match kind {
@@ -355,8 +359,8 @@ pub(crate) fn group_end(group: Group, text: &[u8], at: usize) -> usize
     }
 }
 
-// Whether a text ends at an offset, or a blank, a mark or a comment stands there.
-fn ends_item(text: &[u8], at: usize) -> bool
+/// Whether a text ends at an offset, or a blank, a mark or a comment stands there.
+pub(crate) fn ends_item(text: &[u8], at: usize) -> bool
     ensures { result ≡ spec.ends_item text.now at }
 {
     text.len() <= at

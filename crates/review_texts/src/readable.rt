@@ -1,5 +1,6 @@
 //! What of a policy is made readable.
 
+use crate::HostAddress;
 use audit_files::Triple;
 use sudo_text::Seq;
 
@@ -12,4 +13,6 @@ pub struct Readable {
     pub netgroups: Vec<Triple>,
     /// The name of the host whose part before the first dot is read in place of `%h` in the path of an include line.
     pub host: Option<Seq<u8>>,
+    /// The IPv6 addresses of hosts, by which an address in a list of hosts is read as the hosts that have it, if they are known.
+    pub addresses: Option<Seq<HostAddress>>,
 }

@@ -3,9 +3,12 @@ ghost use Rattle.std.specs.Prelude.{◌≡◌, ◌≢◌, ◌≤◌, length, Dec
 ghost use Rattle.sudo_text.specs.declared.line.Place.{Place as APlace};
 ghost use Rattle.sudo_grammar.specs.declared.policy.EntryBody.{EntryBody as AnEntry};
 ghost use Rattle.sudo_grammar.specs.declared.fault.Unsupported.{Unsupported as AForm};
-ghost use Rattle.review_texts.specs.Places.{IsBadNumberAt, IsEntryIn, IsRefusedFor};
+ghost use Rattle.review_texts.specs.declared.mask.Form.{Form as TheForm};
+ghost use Rattle.review_texts.specs.Body.Faults.{IsFormOf};
+ghost use Rattle.review_texts.specs.Places.{IsBadNumberAt, IsEntryIn, IsRefusedAs, IsRefusedFor};
 ghost use Rattle.review_texts.specs.MaskedTexts.{HasEntries, IsRead};
 
+use crate::Form;
 use std::alloc::{AllocError, Global};
 use std::slice;
 use sudo_grammar::{EntryBody, ParseFault, Unsupported};
@@ -74,6 +77,33 @@ pub(crate) fn is_read(alloc: Global, line: &Line) -> Result<bool, AllocError>
         return Ok(false);
     }
     has_entries(alloc, line)
+}
+
+// Returns what a fault names that can be masked, if it does.
+fn form_in(fault: &ParseFault) -> Option<Form>
+    ensures { MatchOption result
+        ((form : TheForm) → IsFormOf fault.now form → ⊥) (λ form. IsFormOf fault.now form) }
+{
+    match fault {
+        ParseFault::Unsupported { what, .. } => Some(Form::Named(*what)),
+        ParseFault::Syntax { .. } => Some(Form::Ipv6),
+        _ => None,
+    }
+}
+
+/// Returns what a line by itself is refused for that can be masked, if it is. Returns `AllocError` if allocation fails.
+pub(crate) fn refused_as(alloc: Global, line: &Line) -> Result<Option<Form>, AllocError>
+    requires { length line.now.text ≤ TEXT_LIMIT }
+    ensures { IfOk result (λ found. MatchOption found
+        ((form : TheForm) → IsRefusedAs line.now form → ⊥)
+        (λ form. IsRefusedAs line.now form)) }
+{
+    let fault = match parse(alloc, slice::from_ref(line)) {
+        Ok(_) => return Ok(None),
+        Err(fault) => fault,
+    };
+    unless_memory(fault)?;
+    Ok(form_in(&fault))
 }
 
 /// Returns the form for which a line by itself is refused by name, if it is. Returns `AllocError` if allocation fails.

@@ -4,18 +4,21 @@ ghost use Rattle.std.specs.Prelude.{MatchOption, OnOk, Some, length, filter, if�
 ghost use Rattle.review_texts.specs.Masks as spec;
 ghost use Rattle.review_texts.specs.Hostnames as hosts;
 ghost use Rattle.review_texts.specs.Hostnames.{StandsName};
-ghost use Rattle.review_texts.specs.Masks.{Stands};
+ghost use Rattle.review_texts.specs.Masks.{Stands, StandsAt};
+ghost use Rattle.review_texts.specs.Addressed.{StandsIpv6};
 ghost use Rattle.review_texts.specs.Notes.{note_path};
 
+use crate::addressed::member_hosts;
 use crate::bytes::{from, is_text};
 use crate::digests::{digest_at, digest_end, digest_start};
 use crate::expressions::{command_at, dollar_of, expression_at, push_hex};
 use crate::hostnames::{escape_stands, is_hostname, short_name};
+use crate::ipv6::ipv6_end;
 use crate::listed::group_members;
 use crate::netgroups::{Group, group_end};
 use crate::options::{name_at, option_end, value_at, value_of};
 use crate::places::{NO_PATH, digest_stands, expression_stands, list_stands, option_stands};
-use crate::{Note, Readable};
+use crate::{Form, HostAddress, Note, Readable};
 use std::alloc::{AllocError, Global};
 use sudo_grammar::Unsupported;
 use sudo_text::{Line, Seq, TEXT_LIMIT};
@@ -297,9 +300,8 @@ fn named_standing(
     Ok(Some(Standing { end, put }))
 }
 
-/// Returns the end of a form that begins at an offset, and what stands in its place, if it stands there. Returns `AllocError` if
-/// allocation fails.
-pub(crate) fn stands(
+// Returns the end of a form that is refused by name and begins at an offset, and what stands in its place, if it stands there.
+fn named_stands(
     alloc: Global,
     readable: &Readable,
     line: &Line,
@@ -320,5 +322,65 @@ pub(crate) fn stands(
         Unsupported::NonUnixGroup => group_standing(alloc, Group::NonUnix, readable, line, at),
         Unsupported::RegularExpression => expression_standing(alloc, readable, line, at),
         Unsupported::HostEscape => host_standing(alloc, readable, line, at),
+    }
+}
+
+// Returns the end of an IPv6 address at an offset, and the list of the hosts that have it, if it stands there.
+fn ipv6_standing(
+    alloc: Global,
+    readable: &Readable,
+    line: &Line,
+    at: usize,
+) -> Result<Option<Standing>, AllocError>
+    requires within { at ≤ length line.now.text }
+    requires short { length line.now.text + 16 ≤ TEXT_LIMIT }
+    ensures { IfOk result (λ found. MatchOption found
+        ((end : ℕ) (put : List ℕ) → StandsAt readable.now line.now Form.Ipv6 at end put → ⊥)
+        (λ s. StandsAt readable.now line.now Form.Ipv6 at s.end s.put)) }
+{
+    match &readable.addresses {
+        Some(known) => member_standing(alloc, known.as_slice(), line, at),
+        None => Ok(None),
+    }
+}
+
+// The same, where these addresses of hosts are known.
+fn member_standing(
+    alloc: Global,
+    known: &[HostAddress],
+    line: &Line,
+    at: usize,
+) -> Result<Option<Standing>, AllocError>
+    requires within { at ≤ length line.now.text }
+    requires short { length line.now.text + 16 ≤ TEXT_LIMIT }
+    ensures { IfOk result (λ found. MatchOption found
+        ((end : ℕ) (put : List ℕ) → StandsIpv6 (Some known.now) line.now at end put → ⊥)
+        (λ s. StandsIpv6 (Some known.now) line.now at s.end s.put)) }
+{
+    let Some(put) = member_hosts(alloc, known, line, at)? else {
+        return Ok(None);
+    };
+    let end = ipv6_end(line.text.as_slice(), at);
+    Ok(Some(Standing { end, put }))
+}
+
+/// Returns the end of a form that begins at an offset, and what stands in its place, if it stands there. Returns `AllocError` if
+/// allocation fails.
+pub(crate) fn stands(
+    alloc: Global,
+    readable: &Readable,
+    line: &Line,
+    form: Form,
+    at: usize,
+) -> Result<Option<Standing>, AllocError>
+    requires within { at ≤ length line.now.text }
+    requires short { length line.now.text + 16 ≤ TEXT_LIMIT }
+    ensures { IfOk result (λ found. MatchOption found
+        ((end : ℕ) (put : List ℕ) → StandsAt readable.now line.now form at end put → ⊥)
+        (λ s. StandsAt readable.now line.now form at s.end s.put)) }
+{
+    match form {
+        Form::Named(form) => named_stands(alloc, readable, line, form, at),
+        Form::Ipv6 => ipv6_standing(alloc, readable, line, at),
     }
 }

@@ -1,10 +1,11 @@
 //! The words without which nothing of a text is written otherwise.
-ghost use Rattle.std.specs.Prelude.{◌≡◌, ◌∷◌, ◌||◌, codes, nat_eq, slice_index};
-ghost use Rattle.std.specs.List.{list_any, starts_with};
+ghost use Rattle.std.specs.Prelude.{◌≡◌, ◌≤◌, ◌∷◌, ◌||◌, codes, length, nat_eq, slice_index};
+ghost use Rattle.std.specs.List.{list_any, starts_with, take_while};
+ghost use Rattle.sudo_text.specs.Bytes as bytes;
 ghost use Rattle.review_texts.specs.Body.Beginnings as beginnings;
 ghost use Rattle.review_texts.specs.Words as spec;
 
-use crate::bytes::peek;
+use crate::bytes::{from, is_hex, peek};
 
 // Whether one of the words begins with a byte and the first of those that follow it, or the byte is a plus sign or a caret.
 fn begin_word(first: u8, rest: &[u8]) -> bool
@@ -75,13 +76,28 @@ fn begins_at(first: u8, rest: &[u8], text: &[u8]) -> bool
     begin_word(first, rest) && begins_word(text)
 }
 
-/// Whether one of the words stands in a text.
+// Returns the number of hexadecimal digits that begin a text.
+fn hex_count(text: &[u8]) -> usize
+    ensures count { result ≡ length (take_while bytes.is_hex text.now) }
+    ensures within { result ≤ length text.now }
+{
+    text.iter().take_while(|byte| is_hex(**byte)).count()
+}
+
+// Whether a colon, hexadecimal digits or none, and a colon begin a text.
+fn begins_colons(text: &[u8]) -> bool
+    ensures { result ≡ spec.begins_colons text.now }
+{
+    peek(text, 0) == b':' && peek(text, 1 + hex_count(from(text, 1))) == b':'
+}
+
+/// Whether one of the words, or the colons of an IPv6 address, stand in a text.
 pub(crate) fn has_word(text: &[u8]) -> bool
     ensures { result ≡ spec.has_word text.now }
 {
     let mut left = text;
     while let Some((first, rest)) = left.split_first() {
-        if begins_at(*first, rest, left) {
+        if begins_at(*first, rest, left) || begins_colons(left) {
             return true;
         }
         left = rest;

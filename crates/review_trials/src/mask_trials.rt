@@ -1,13 +1,35 @@
 //! Texts before and behind their masks. Many lines are those of sudo's own tests.
 
 use audit_files::Triple;
-use review_texts::{Readable, mask_text};
+use review_texts::{HostAddress, Readable, mask_text};
 use std::alloc::{AllocError, Global};
 use std::test::Fail;
 use sudo_text::Seq;
 
+// Returns the addresses of hosts: two of one network, the second of a name of capital letters; one on another network of the first
+// host; one of a network of ten bits, and one of none; the loopback address, and the unspecified one.
+fn addresses(alloc: Global) -> Result<Seq<HostAddress>, AllocError> {
+    let mut known = Seq::new(alloc);
+    for (host, address, len) in [
+        ("web1", 0x2001_0db8_0000_0000_0000_0000_0000_0001, 64),
+        ("DB", 0x2001_0db8_0000_0000_0000_0000_0000_0005, 64),
+        ("web1", 0x2001_0db8_0000_0001_0000_0000_0000_0001, 128),
+        ("near", 0xfe80_0000_0000_0000_0000_0000_0000_0009, 10),
+        ("flat", 0xabcd_0000_0000_0000_0000_0000_0000_0001, 0),
+        ("loop", 1, 128),
+        ("bare", 0, 64),
+    ] {
+        known.push(HostAddress {
+            host: Seq::from_slice(alloc, host.as_bytes())?,
+            address,
+            len,
+        })?;
+    }
+    Ok(known)
+}
+
 // Returns that notes are read, and three netgroups: of users on hosts, of capital letters, and without members; two non-Unix groups;
-// and the name of a host.
+// the name of a host, and addresses of hosts.
 fn readable(alloc: Global) -> Result<Readable, AllocError> {
     let mut netgroups = Vec::new(alloc);
     for (netgroup, host, user) in [
@@ -30,6 +52,7 @@ fn readable(alloc: Global) -> Result<Readable, AllocError> {
         noted: true,
         netgroups,
         host,
+        addresses: Some(addresses(alloc)?),
     })
 }
 
@@ -217,6 +240,7 @@ fn notes_are_refused_where_none_is_wanted(rt: HostRuntime) -> Result<(), Fail> {
         noted: false,
         netgroups: Vec::new(alloc),
         host: None,
+        addresses: None,
     };
     for text in ["u ALL = CHROOT=/x /b", "u ALL = NOTAFTER=2026010100Z /b"] {
         let masked = mask_text(alloc, &readable, Seq::from_slice(alloc, text.as_bytes())?)?;
@@ -257,11 +281,116 @@ fn an_escape_stays_without_the_name_of_a_host(rt: HostRuntime) -> Result<(), Fai
             noted: true,
             netgroups: Vec::new(alloc),
             host,
+            addresses: None,
         };
         let text = Seq::from_slice(alloc, b"@include /etc/sudoers.%h")?;
         let masked = mask_text(alloc, &readable, text)?;
         assert!(rt; masked.as_slice() == b"@include /etc/sudoers.%h".as_slice());
     }
+    Ok(())
+}
+
+#[test]
+fn an_address_becomes_its_hosts(rt: HostRuntime) -> Result<(), Fail> {
+    let rows = [
+        ("u 2001:db8::1 = ALL\n", "u web1        = ALL\n"),
+        ("u 2001:DB8:0:0:0::5=ALL", "u \\DB              =ALL"),
+        (
+            "u 2001:db8:0:0:0:0:0:1 = ALL",
+            "u web1                 = ALL",
+        ),
+        ("u 2001:db8::2, x = ALL", "u [z-a]      , x = ALL"),
+        // The number of a host's network, and that of another length.
+        ("u 2001:db8:: = ALL", "u web1,\\DB   = ALL"),
+        ("u 2001:db8:0:1:: = ALL", "u [z-a]          = ALL"),
+        ("u fe80:: = ALL", "u near   = ALL"),
+        ("u :: = ALL", "u flat = ALL"),
+        // Networks: each host once.
+        ("u 2001:db8::/64 = ALL", "u web1,\\DB      = ALL"),
+        ("u 2001:db8:9::/32 = ALL", "u web1,\\DB        = ALL"),
+        (
+            "u 2001:db8:0:1:9::/63 = ALL",
+            "u web1,\\DB            = ALL",
+        ),
+        ("u 2001:db8:0:1:9::/64 = ALL", "u web1                = ALL"),
+        ("u 2001:db8::1/128 = ALL", "u web1            = ALL"),
+        ("u 2001:db8::/128 = ALL", "u [z-a]          = ALL"),
+        ("u fe80::/10 = ALL", "u near      = ALL"),
+        ("u ::/1 = ALL", "u web1,\\DB = ALL"),
+        ("u 8000::/1 = ALL", "u near,flat = ALL"),
+        ("u ::/0 = ALL", "u [z-a] = ALL"),
+        ("u ::1 = ALL", "u [z-a] = ALL"),
+        ("u ::1/128 = ALL", "u [z-a]   = ALL"),
+        ("u ::/128 = ALL", "u [z-a]  = ALL"),
+        // Signs, other lists, and several on one line.
+        ("u ALL,!2001:db8::/32 = ALL", "u ALL,!web1,!\\DB     = ALL"),
+        ("u ! ! 2001:db8::/32 = ALL", "u ! ! web1,\\DB      = ALL"),
+        ("u ALL, ! 9::9 = ALL", "u ALL, ! [z-a] = ALL"),
+        (
+            "Host_Alias A = fe80::9, x : B = !2001:db8::/64\n",
+            "Host_Alias A = near   , x : B = !web1,!\\DB    \n",
+        ),
+        ("Defaults@fe80::9 !lecture", "Defaults@near    !lecture"),
+        ("Defaults@x,fe80::9 !lecture", "Defaults@x,near    !lecture"),
+        (
+            "u x = ALL : fe80::9, +ops = (root) list",
+            "u x = ALL : near   , web1,\\DB = (root) /list[z-a]",
+        ),
+        (
+            "u fe80::9, \\\n 2001:db8::/64 = ALL",
+            "u near   , web1,\\DB      = ALL\n",
+        ),
+        ("u fe80::9 = foo", "u near    = foo"),
+    ];
+    assert!(rt; are_masked(rt.alloc(), &rows)?);
+    Ok(())
+}
+
+#[test]
+fn what_is_no_address_stays(rt: HostRuntime) -> Result<(), Fail> {
+    let texts = [
+        "u 2001:db8::1::5 = ALL",
+        "u 2001:db8:0:0:0:0:0 = ALL",
+        "u 2001:db8:0:0:0:0:0:0:1 = ALL",
+        "u 1:2:3:4::5:6:7:8 = ALL",
+        "u 1:2:3:4:5:6:7:: = ALL",
+        "u 02001:db8::1 = ALL",
+        "u 2001:db8:::1 = ALL",
+        "u :2001:db8::1 = ALL",
+        "u 2001:db8::1: = ALL",
+        "u 2001:dg8::1 = ALL",
+        "u 2001:db8::1/129 = ALL",
+        "u 2001:db8::/064 = ALL",
+        "u 2001:db8::/ = ALL",
+        "u 2001:db8::/6x = ALL",
+        "u 2001:db8::/ffff:: = ALL",
+        "u ::ffff:10.0.0.1 = ALL",
+        "u fe80::9%eth0 = ALL",
+        "fe80::9 ALL = ALL",
+        "u ALL = (fe80::9) ALL",
+        "u ALL = ALL:fe80::9 = ALL",
+        "u \"fe80::9\" = ALL",
+        "u xfe80::9 = ALL",
+        "Defaults@::9 !lecture",
+        "u fe80::9, \\\n x = foo",
+        "u 2001:\\\ndb8::1 = ALL",
+    ];
+    assert!(rt; are_kept(rt.alloc(), &texts)?);
+    Ok(())
+}
+
+#[test]
+fn an_address_stays_without_addresses_of_hosts(rt: HostRuntime) -> Result<(), Fail> {
+    let alloc = rt.alloc();
+    let readable = Readable {
+        noted: true,
+        netgroups: Vec::new(alloc),
+        host: None,
+        addresses: None,
+    };
+    let text = Seq::from_slice(alloc, b"u fe80::9 = ALL")?;
+    let masked = mask_text(alloc, &readable, text)?;
+    assert!(rt; masked.as_slice() == b"u fe80::9 = ALL".as_slice());
     Ok(())
 }
 

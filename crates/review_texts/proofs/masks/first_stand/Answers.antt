@@ -1,6 +1,6 @@
 use Rattle.std.proofs.Common.{◌≡◌, ℕ, arith, inl, inr, subst}
 use Rattle.std.proofs.lemmas.Bool.{cases_lt}
-use Rattle.review_texts.specs.Masks.{Stands}
+use Rattle.review_texts.specs.Masks.{StandsAt}
 use Rattle.review_texts.proofs.FormPlaces.{stands_within}
 use Rattle.review_texts.proofs.masks.first_stand.Goals as goal
 
@@ -16,5 +16,5 @@ loop-at-preserved c =
       | inl before ↦ c.loop-at.invariant start end put before stands
       | inr past ↦
           let same : start ≡ c.loop-at.at = omega arith in
-          none end put (subst (λ (n : ℕ). Stands c.args.readable.now c.args.line.now c.args.form n end put) same stands)
+          none end put (subst (λ (n : ℕ). StandsAt c.args.readable.now c.args.line.now c.args.form n end put) same stands)
     ]

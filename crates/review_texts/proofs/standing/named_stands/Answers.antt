@@ -1,4 +1,4 @@
-use Rattle.review_texts.proofs.standing.stands.Goals as goal
+use Rattle.review_texts.proofs.standing.named_stands.Goals as goal
 
 pub returns-in-Netgroup : goal.returns-in-Netgroup
 returns-in-Netgroup c = rw c.in-Netgroup.is c.group_standing.ensures
