@@ -21,7 +21,7 @@ PLACES = {
     "ALIAS_WIDTH": rf"measure\.width > {NUMBER}",
     "CSV_BYTES": rf"const BYTE_LIMIT: usize = {NUMBER};",
     "ROWS": rf"if self\.list\.len\(\) >= {NUMBER}",
-    "REQUESTS": rf"if count >= {NUMBER} \{{",
+    "REQUESTS": rf"if count >= {NUMBER} \{{\n *return Some\(FileFault::TooMany\);",
     "SENDERS": rf"const MOST_SENDERS: usize = {NUMBER};",
     "SOURCES": rf"const MOST_PARTS: usize = {NUMBER};",
     "WORKERS": rf"How many workers judge the requests, from 1 to {NUMBER}",
