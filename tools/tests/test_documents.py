@@ -239,7 +239,7 @@ class Examples(unittest.TestCase):
 
     @needs_review
     def test_the_review(self) -> None:
-        self.assertEqual(self.shows(text_of("docs/REVIEW.md").splitlines()), 21)
+        self.assertEqual(self.shows(text_of("docs/REVIEW.md").splitlines()), 22)
 
     @needs_review
     def test_the_manual_page_of_the_review(self) -> None:

@@ -255,21 +255,22 @@ class Completions(unittest.TestCase):
     def test_words_of_commands(self) -> None:
         for program, command in (("sudo_audit", "audit"), ("sudo_review", "report"), ("sudo_review", "rules")):
             with self.subTest(program=program, command=command):
-                root = ["--root", "--netgroups", "--hostname"] if program == "sudo_review" else []
+                root = ["--root", "--netgroups", "--addresses", "--hostname"] if program == "sudo_review" else []
                 options = [*root, "--users", "--hosts", "--workers", "--help"]
                 self.assertEqual(self.proposed(program, command, "p", "-"), options)
                 self.assertEqual(self.proposed(program, command, "p", "--workers", "16"), ["16"])
                 self.assertEqual(self.proposed(program, command, "p", "s=di"), ["a file for di"])
-        self.assertEqual(self.proposed("sudo_review", "check", "-"), ["--root", "--netgroups", "--hostname", "--help"])
-        options = ["--root", "--netgroups", "--hostname", "--links", "--without", "--help"]
+        options = ["--root", "--netgroups", "--addresses", "--hostname", "--help"]
+        self.assertEqual(self.proposed("sudo_review", "check", "-"), options)
+        options = ["--root", "--netgroups", "--addresses", "--hostname", "--links", "--without", "--help"]
         self.assertEqual(self.proposed("sudo_review", "cautions", "-"), options)
         self.assertEqual(self.proposed("sudo_review", "cautions", "--without", ""), list(read_table("cautions")["classes"]))
-        options = ["--root", "--netgroups", "--hostname", "--users", "--hosts", "--user", "--host", "--help"]
+        options = ["--root", "--netgroups", "--addresses", "--hostname", "--users", "--hosts", "--user", "--host", "--help"]
         self.assertEqual(self.proposed("sudo_review", "grants", "p", "-"), options)
-        options = ["--root", "--netgroups", "--hostname", "--users", "--hosts", "--all", "--help"]
+        options = ["--root", "--netgroups", "--addresses", "--hostname", "--users", "--hosts", "--all", "--help"]
         self.assertEqual(self.proposed("sudo_review", "roots", "p", "-"), options)
         self.assertEqual(self.proposed("sudo_review", "subjects", "p", "-"), [*options[:-2], "--help"])
-        options = ["--netgroups", "--hostname", "--users", "--hosts", "--user", "--host", "--requests", "--help"]
+        options = ["--netgroups", "--addresses", "--hostname", "--users", "--hosts", "--user", "--host", "--requests", "--help"]
         self.assertEqual(self.proposed("sudo_review", "compare", "p", "q", "-"), options)
         self.assertEqual(self.proposed("sudo_review", "compare", "p", "q", "--requests", "s=di"), ["a file for di"])
         self.assertEqual(self.proposed("sudo_review", "subjects", "p", "--users", "d"), ["a file for d"])

@@ -41,6 +41,9 @@ class Tables(TableCase):
     def test_table_grants(self) -> None:
         self.check_table("grants")
 
+    def test_table_addresses(self) -> None:
+        self.check_table("addresses")
+
     def test_table_hostname(self) -> None:
         self.check_table("hostname")
 

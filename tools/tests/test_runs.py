@@ -8,8 +8,8 @@ from support import REQUESTS_HEADER, needs_program
 from tables import AUDIT, REPORT, TABLES, Shown, TableCase, asked, parts
 
 OF_REVIEW = {
-    *("cautions", "compare", "expanded", "grants", "hostname", "masks", "netgroups", "report", "review", "roots", "rules"),
-    *("subjects", "who"),
+    *("addresses", "cautions", "compare", "expanded", "grants", "hostname", "masks", "netgroups", "report", "review", "roots"),
+    *("rules", "subjects", "who"),
 }
 
 

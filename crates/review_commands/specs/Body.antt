@@ -4,3 +4,4 @@ pub mod Expanding
 pub mod Pairing
 pub mod Knowing
 pub mod Paths
+pub mod AddressRows

@@ -1,5 +1,6 @@
 pub mod FileTexts
 pub mod CautionLines
+pub mod Addresses
 pub mod MachineFiles
 pub mod Endings
 pub mod Rows

@@ -1,5 +1,5 @@
--- What files state of a machine beside its policy: links to folders, netgroups, and whether all known hosts have one name. And the
--- faults of such files.
+-- What files state of a machine beside its policy: links to folders, netgroups, addresses, and whether all known hosts have one name.
+-- And the faults of such files.
 use Rattle.std.specs.Prelude.{◌≡◌, ℕ, Bool, not, List, ◌++◌, bytes_eq, codes, find, map, Option, option_map, Ok, Err}
 use Rattle.audit_commands.specs.FaultTexts.{file_fault_text}
 use Rattle.audit_commands.specs.Faults.{file_status}
@@ -12,8 +12,9 @@ use Rattle.audit_files.specs.Netgroups.{triples}
 use Rattle.sudo_match.specs.declared.people.Machine.{Machine}
 use Rattle.sudo_match.specs.Matching.{short_name}
 use Rattle.review_cautions.specs.declared.link.Link.{Link}
+use Rattle.review_commands.specs.Addresses.{host_addresses}
 use Rattle.review_commands.specs.declared.machine_file.MachineFile.{MachineFile}
-use Rattle.review_commands.specs.declared.machine_file.MachineFile.TheVariants.{Hosts, Links, Netgroups}
+use Rattle.review_commands.specs.declared.machine_file.MachineFile.TheVariants.{Addresses, Hosts, Links, Netgroups}
 use Rattle.review_commands.specs.declared.machine_file.MachineFileFault.{MachineFileFault}
 use Rattle.review_commands.specs.declared.machine_file.MachineFileFault.TheVariants as faults
 use Rattle.run_base.specs.FaultLines.{error_line, open_explained, open_printed}
@@ -28,7 +29,7 @@ abbrev pub AreLinks : Option Ahead → List Link → Type 0
 AreLinks ahead found =
     (rows : List (List ℕ × List ℕ)) × IsRead links ahead (Ok rows) × (found ≡ map link_of_paths rows)
 
--- why there are no links, or no netgroups: the file is refused, or memory failed
+-- why there are no links, no netgroups, no addresses: the file is refused, or memory failed
 abbrev pub IsNoLinks : Option Ahead → MachineFileFault → Type 0
 IsNoLinks ahead (faults.Unopened fault) = ⊥
 IsNoLinks ahead (faults.Refused file fault) = (file ≡ Links) × (IsNotOutOfMemory fault → IsRead links ahead (Err fault))
@@ -37,6 +38,11 @@ abbrev pub AreNoNetgroups : Option Ahead → MachineFileFault → Type 0
 AreNoNetgroups ahead (faults.Unopened fault) = ⊥
 AreNoNetgroups ahead (faults.Refused file fault) =
     (file ≡ Netgroups) × (IsNotOutOfMemory fault → IsRead triples ahead (Err fault))
+
+abbrev pub AreNoAddresses : Option Ahead → MachineFileFault → Type 0
+AreNoAddresses ahead (faults.Unopened fault) = ⊥
+AreNoAddresses ahead (faults.Refused file fault) =
+    (file ≡ Addresses) × (IsNotOutOfMemory fault → IsRead host_addresses ahead (Err fault))
 
 -- a host has the short name of this name
 abbrev pub is_called : List ℕ → Machine → Bool
@@ -63,6 +69,7 @@ abbrev pub machine_file_name : MachineFile → List ℕ
 machine_file_name Links = codes "links"
 machine_file_name Netgroups = codes "netgroups"
 machine_file_name Hosts = codes "hosts"
+machine_file_name Addresses = codes "addresses"
 
 -- 3: the file is refused. 4: opening, reading or memory failed.
 abbrev pub machine_file_status : MachineFileFault → ℕ

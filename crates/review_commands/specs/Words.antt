@@ -33,14 +33,21 @@ root_rule = name_rule (codes "root")
 abbrev pub netgroups_rule : Rule
 netgroups_rule = name_rule (codes "netgroups")
 
+-- --addresses F
+abbrev pub addresses_rule : Rule
+addresses_rule = name_rule (codes "addresses")
+
 -- --hostname NAME
 abbrev pub hostname_rule : Rule
 hostname_rule = name_rule (codes "hostname")
 
--- NAME FILE [--root DIR] [--netgroups F] [--hostname NAME]
+-- NAME FILE [--root DIR] [--netgroups F]
+abbrev pub file_app : Text → App
+file_app name = with_rule (with_rule (with_rule (new_app name) (required_word (codes "file"))) root_rule) netgroups_rule
+
+-- NAME FILE [--root DIR] [--netgroups F] [--addresses F] [--hostname NAME]
 abbrev pub policy_app : Text → App
-policy_app name = with_rule (with_rule (with_rule (with_rule (new_app name) (required_word (codes "file"))) root_rule) netgroups_rule)
-    hostname_rule
+policy_app name = with_rule (with_rule (file_app name) addresses_rule) hostname_rule
 
 -- the word of a kind of alias
 abbrev pub kind_word : Kind → Text
@@ -49,33 +56,38 @@ kind_word kind.Runas = codes "runas"
 kind_word kind.Host = codes "host"
 kind_word kind.Cmnd = codes "cmnd"
 
--- expand FILE KIND NAME [--root DIR] [--netgroups F] [--hostname NAME]
+-- expand FILE KIND NAME [--root DIR] [--netgroups F] [--addresses F] [--hostname NAME]
 abbrev pub expand_app : App
 expand_app = with_rule (with_rule (policy_app (codes "expand")) (required_word (codes "kind"))) (required_word (codes "name"))
 
--- cautions FILE [--root DIR] [--netgroups F] [--hostname NAME] [--links F] [--without CLASS]...
+-- cautions FILE [--root DIR] [--netgroups F] [--addresses F] [--hostname NAME] [--links F] [--without CLASS]...
 abbrev pub cautions_app : App
 cautions_app = with_rule (with_rule (policy_app (codes "cautions")) (name_rule (codes "links"))) without_rule
 
--- NAME FILE [--root DIR] [--netgroups F] [--hostname NAME] --users F --hosts F
+-- NAME FILE [--root DIR] [--netgroups F] [--addresses F] [--hostname NAME] --users F --hosts F
 abbrev pub paths_app : Text → App
 paths_app name = with_rule (with_rule (policy_app name) (required_option (codes "users"))) (required_option (codes "hosts"))
 
--- grants FILE [--root DIR] [--netgroups F] [--hostname NAME] --users F --hosts F [--user NAME] [--host NAME]
+-- grants FILE [--root DIR] [--netgroups F] [--addresses F] [--hostname NAME] --users F --hosts F [--user NAME] [--host NAME]
 abbrev pub grants_app : App
 grants_app = with_rule (with_rule (paths_app (codes "grants")) (name_rule (codes "user"))) (name_rule (codes "host"))
 
--- who FILE [--root DIR] [--netgroups F] [--hostname NAME] --users F --hosts F --command PATH [--arguments TEXT] [--runas USER]
+-- who FILE [--root DIR] [--netgroups F] [--addresses F] [--hostname NAME] --users F --hosts F --command PATH [--arguments TEXT]
+-- [--runas USER]
 abbrev pub who_app : App
 who_app = with_rule (with_rule (with_rule (paths_app (codes "who")) (required_option (codes "command")))
     (name_rule (codes "arguments"))) (name_rule (codes "runas"))
 
--- compare OLD NEW [--netgroups F] [--hostname NAME]
-abbrev pub policies_app : App
-policies_app = with_rule (with_rule (with_rule (with_rule (new_app (codes "compare")) (required_word (codes "old")))
-    (required_word (codes "new"))) netgroups_rule) hostname_rule
+-- compare OLD NEW [--netgroups F]
+abbrev pub files_app : App
+files_app = with_rule (with_rule (with_rule (new_app (codes "compare")) (required_word (codes "old"))) (required_word (codes "new")))
+    netgroups_rule
 
--- compare OLD NEW [--netgroups F] [--hostname NAME] --users F --hosts F
+-- compare OLD NEW [--netgroups F] [--addresses F] [--hostname NAME]
+abbrev pub policies_app : App
+policies_app = with_rule (with_rule files_app addresses_rule) hostname_rule
+
+-- compare OLD NEW [--netgroups F] [--addresses F] [--hostname NAME] --users F --hosts F
 abbrev pub pair_app : App
 pair_app = with_rule (with_rule policies_app (required_option (codes "users"))) (required_option (codes "hosts"))
 
@@ -83,7 +95,8 @@ pair_app = with_rule (with_rule policies_app (required_option (codes "users"))) 
 abbrev pub requests_rule : Rule
 requests_rule = record (new_rule (codes "requests")) { long = Some (codes "requests"); action = Some Append }
 
--- compare OLD NEW [--netgroups F] [--hostname NAME] --users F --hosts F [--user NAME] [--host NAME] [--requests NAME=PATH]...
+-- compare OLD NEW [--netgroups F] [--addresses F] [--hostname NAME] --users F --hosts F [--user NAME] [--host NAME] [--requests
+-- NAME=PATH]...
 abbrev pub compare_app : App
 compare_app = with_rule (with_rule (with_rule pair_app (name_rule (codes "user"))) (name_rule (codes "host"))) requests_rule
 
@@ -91,11 +104,11 @@ compare_app = with_rule (with_rule (with_rule pair_app (name_rule (codes "user")
 abbrev pub all_rule : Rule
 all_rule = record (new_rule (codes "all")) { long = Some (codes "all"); action = Some SetTrue }
 
--- roots FILE [--root DIR] [--netgroups F] [--hostname NAME] --users F --hosts F [--all]
+-- roots FILE [--root DIR] [--netgroups F] [--addresses F] [--hostname NAME] --users F --hosts F [--all]
 abbrev pub roots_app : App
 roots_app = with_rule (paths_app (codes "roots")) all_rule
 
--- NAME FILE [--root DIR] [--netgroups F] [--hostname NAME] --users F --hosts F [--workers N] [NAME=PATH]...
+-- NAME FILE [--root DIR] [--netgroups F] [--addresses F] [--hostname NAME] --users F --hosts F [--workers N] [NAME=PATH]...
 abbrev pub judging_app : Text → App
 judging_app name = with_rule (with_rule (paths_app name) workers_rule) senders_rule
 
@@ -115,12 +128,13 @@ abbrev pub fits_hostname : Option Text → Bool
 fits_hostname None = true
 fits_hostname (Some name) = is_hostname name
 
--- the rows hold the main file of a policy, and, if they are given, the folder below which its files are, the file of its netgroups, and
--- the name of a host
+-- the rows hold the main file of a policy, and, if they are given, the folder below which its files are, the files of its
+-- netgroups and of addresses, and the name of a host
 pub record HavePolicy (rows : List Row) (policy : PolicyPath) : Type 0 where
   pub file_is : first_of (codes "file") rows ≡ Some policy.file.now
   pub root_is : first_of (codes "root") rows ≡ option_map (λ s. s.now) policy.root
   pub netgroups_is : first_of (codes "netgroups") rows ≡ option_map (λ s. s.now) policy.netgroups
+  pub addresses_is : first_of (codes "addresses") rows ≡ option_map (λ s. s.now) policy.addresses
   pub hostname_is : first_of (codes "hostname") rows ≡ option_map (λ s. s.now) policy.hostname
   pub hostname_fits : fits_hostname (first_of (codes "hostname") rows) ≡ true
 
@@ -130,14 +144,15 @@ pub record HavePaths (rows : List Row) (paths : Paths) : Type 0 where
   pub users_is : first_of (codes "users") rows ≡ Some paths.users.now
   pub hosts_is : first_of (codes "hosts") rows ≡ Some paths.hosts.now
 
--- the rows hold the paths of two policies, of the known users and of the known hosts, and, if they are given, that of the netgroups and
--- the name of a host
+-- the rows hold the paths of two policies, of the known users and of the known hosts, and, if they are given, those of the
+-- netgroups and of addresses, and the name of a host
 pub record HavePair (rows : List Row) (paths : PairPaths) : Type 0 where
   pub old_is : first_of (codes "old") rows ≡ Some paths.old.now
   pub new_is : first_of (codes "new") rows ≡ Some paths.new.now
   pub users_is : first_of (codes "users") rows ≡ Some paths.users.now
   pub hosts_is : first_of (codes "hosts") rows ≡ Some paths.hosts.now
   pub netgroups_is : first_of (codes "netgroups") rows ≡ option_map (λ s. s.now) paths.netgroups
+  pub addresses_is : first_of (codes "addresses") rows ≡ option_map (λ s. s.now) paths.addresses
   pub hostname_is : first_of (codes "hostname") rows ≡ option_map (λ s. s.now) paths.hostname
   pub hostname_fits : fits_hostname (first_of (codes "hostname") rows) ≡ true
 

@@ -2,7 +2,8 @@
 ghost use Rattle.std.specs.Prelude.{◌≡◌, IfOk, codes, false};
 ghost use Rattle.clap.specs.Words.{app_of, rule_of};
 ghost use Rattle.clap.specs.declared.builder.command.Command.TheViews.{out-Command as fields_of};
-ghost use Rattle.review_commands.specs.Words.{all_rule, cautions_app, compare_app, expand_app, grants_app, judging_app, name_rule};
+ghost use Rattle.review_commands.specs.Words.{addresses_rule, all_rule, cautions_app, compare_app, expand_app, grants_app};
+ghost use Rattle.review_commands.specs.Words.{file_app, files_app, judging_app, name_rule};
 ghost use Rattle.review_commands.specs.Words.{named_app, pair_app, paths_app, policies_app, policy_app, program_app, requests_rule};
 ghost use Rattle.review_commands.specs.Words.{hostname_rule, netgroups_rule, root_rule, roots_app};
 ghost use Rattle.review_commands.specs.Words.{who_app, without_rule};
@@ -42,6 +43,14 @@ fn netgroups<'a>(alloc: Global) -> Arg<'a>
     name_option(alloc, "netgroups", "The known netgroups, as CSV")
 }
 
+// Returns `--addresses F`.
+fn addresses<'a>(alloc: Global) -> Arg<'a>
+    ensures rule { rule_of result ≡ addresses_rule }
+    ensures local { result.global ≡ false }
+{
+    name_option(alloc, "addresses", "The IPv6 addresses of hosts, as CSV")
+}
+
 // Returns `--hostname NAME`.
 fn hostname<'a>(alloc: Global) -> Arg<'a>
     ensures rule { rule_of result ≡ hostname_rule }
@@ -54,20 +63,29 @@ fn hostname<'a>(alloc: Global) -> Arg<'a>
     )
 }
 
-// Returns `NAME FILE [--root DIR] [--netgroups F] [--hostname NAME]`.
-fn with_policy<'a>(alloc: Global, name: &'a str, about: &'a str) -> Result<Command<'a>, AllocError>
-    ensures app { IfOk result (λ c. app_of c ≡ policy_app name.entry.now) }
+// Returns `NAME FILE [--root DIR] [--netgroups F]`.
+fn with_file<'a>(alloc: Global, name: &'a str, about: &'a str) -> Result<Command<'a>, AllocError>
+    ensures app { IfOk result (λ c. app_of c ≡ file_app name.entry.now) }
     ensures local { IfOk result (λ c. (fields_of c).has_globals ≡ false) }
 {
     Command::new(alloc, name)
         .about(about)
         .arg(file(alloc))?
         .arg(root(alloc))?
-        .arg(netgroups(alloc))?
+        .arg(netgroups(alloc))
+}
+
+// Returns `NAME FILE [--root DIR] [--netgroups F] [--addresses F] [--hostname NAME]`.
+fn with_policy<'a>(alloc: Global, name: &'a str, about: &'a str) -> Result<Command<'a>, AllocError>
+    ensures app { IfOk result (λ c. app_of c ≡ policy_app name.entry.now) }
+    ensures local { IfOk result (λ c. (fields_of c).has_globals ≡ false) }
+{
+    with_file(alloc, name, about)?
+        .arg(addresses(alloc))?
         .arg(hostname(alloc))
 }
 
-// Returns `check FILE [--root DIR] [--netgroups F] [--hostname NAME]`.
+// Returns `check FILE [--root DIR] [--netgroups F] [--addresses F] [--hostname NAME]`.
 fn check<'a>(alloc: Global) -> Result<Command<'a>, AllocError>
     ensures app { IfOk result (λ c. app_of c ≡ policy_app (codes "check")) }
     ensures local { IfOk result (λ c. (fields_of c).has_globals ≡ false) }
@@ -76,7 +94,7 @@ fn check<'a>(alloc: Global) -> Result<Command<'a>, AllocError>
     with_policy(alloc, "check", about)
 }
 
-// Returns `expand FILE KIND NAME [--root DIR] [--netgroups F] [--hostname NAME]`.
+// Returns `expand FILE KIND NAME [--root DIR] [--netgroups F] [--addresses F] [--hostname NAME]`.
 fn expand<'a>(alloc: Global) -> Result<Command<'a>, AllocError>
     ensures app { IfOk result (λ c. app_of c ≡ expand_app) }
     ensures local { IfOk result (λ c. (fields_of c).has_globals ≡ false) }
@@ -90,7 +108,7 @@ fn expand<'a>(alloc: Global) -> Result<Command<'a>, AllocError>
     .arg(word(alloc, "name", "The alias"))
 }
 
-// Returns `cautions FILE [--root DIR] [--netgroups F] [--hostname NAME] [--links F] [--without CLASS]...`.
+// Returns `cautions FILE [--root DIR] [--netgroups F] [--addresses F] [--hostname NAME] [--links F] [--without CLASS]...`.
 fn cautions<'a>(alloc: Global) -> Result<Command<'a>, AllocError>
     ensures app { IfOk result (λ c. app_of c ≡ cautions_app) }
     ensures local { IfOk result (λ c. (fields_of c).has_globals ≡ false) }
@@ -105,7 +123,7 @@ fn cautions<'a>(alloc: Global) -> Result<Command<'a>, AllocError>
         .arg(without(alloc))
 }
 
-// Returns `NAME FILE [--root DIR] [--netgroups F] [--hostname NAME] --users F --hosts F`.
+// Returns `NAME FILE [--root DIR] [--netgroups F] [--addresses F] [--hostname NAME] --users F --hosts F`.
 fn with_paths<'a>(alloc: Global, name: &'a str, about: &'a str) -> Result<Command<'a>, AllocError>
     ensures app { IfOk result (λ c. app_of c ≡ paths_app name.entry.now) }
     ensures local { IfOk result (λ c. (fields_of c).has_globals ≡ false) }
@@ -123,7 +141,7 @@ fn name_option<'a>(alloc: Global, id: &'a str, help: &'a str) -> Arg<'a>
     Arg::new(alloc, id).long(id).help(help)
 }
 
-// Returns `grants FILE [--root DIR] [--netgroups F] [--hostname NAME] --users F --hosts F [--user NAME] [--host NAME]`.
+// Returns `grants FILE [--root DIR] [--netgroups F] [--addresses F] [--hostname NAME] --users F --hosts F [--user NAME] [--host NAME]`.
 fn grants<'a>(alloc: Global) -> Result<Command<'a>, AllocError>
     ensures app { IfOk result (λ c. app_of c ≡ grants_app) }
     ensures local { IfOk result (λ c. (fields_of c).has_globals ≡ false) }
@@ -134,7 +152,8 @@ fn grants<'a>(alloc: Global) -> Result<Command<'a>, AllocError>
         .arg(name_option(alloc, "host", "Only the grants on this host"))
 }
 
-// Returns `who FILE [--root DIR] [--netgroups F] [--hostname NAME] --users F --hosts F --command PATH [--arguments TEXT] [--runas USER]`.
+// Returns `who FILE [--root DIR] [--netgroups F] [--addresses F] [--hostname NAME] --users F --hosts F --command PATH [--arguments TEXT]
+// [--runas USER]`.
 fn who<'a>(alloc: Global) -> Result<Command<'a>, AllocError>
     ensures app { IfOk result (λ c. app_of c ≡ who_app) }
     ensures local { IfOk result (λ c. (fields_of c).has_globals ≡ false) }
@@ -161,7 +180,7 @@ fn all<'a>(alloc: Global) -> Arg<'a>
         .help("Also who can by listed commands alone")
 }
 
-// Returns `roots FILE [--root DIR] [--netgroups F] [--hostname NAME] --users F --hosts F [--all]`.
+// Returns `roots FILE [--root DIR] [--netgroups F] [--addresses F] [--hostname NAME] --users F --hosts F [--all]`.
 fn roots<'a>(alloc: Global) -> Result<Command<'a>, AllocError>
     ensures app { IfOk result (λ c. app_of c ≡ roots_app) }
     ensures local { IfOk result (λ c. (fields_of c).has_globals ≡ false) }
@@ -170,7 +189,7 @@ fn roots<'a>(alloc: Global) -> Result<Command<'a>, AllocError>
     with_paths(alloc, "roots", about)?.arg(all(alloc))
 }
 
-// Returns `subjects FILE [--root DIR] [--netgroups F] [--hostname NAME] --users F --hosts F`.
+// Returns `subjects FILE [--root DIR] [--netgroups F] [--addresses F] [--hostname NAME] --users F --hosts F`.
 fn subjects<'a>(alloc: Global) -> Result<Command<'a>, AllocError>
     ensures app { IfOk result (λ c. app_of c ≡ paths_app (codes "subjects")) }
     ensures local { IfOk result (λ c. (fields_of c).has_globals ≡ false) }
@@ -179,7 +198,7 @@ fn subjects<'a>(alloc: Global) -> Result<Command<'a>, AllocError>
     with_paths(alloc, "subjects", about)
 }
 
-// Returns `rules FILE [--root DIR] [--netgroups F] [--hostname NAME] --users F --hosts F [--workers N] [NAME=PATH]...`.
+// Returns `rules FILE [--root DIR] [--netgroups F] [--addresses F] [--hostname NAME] --users F --hosts F [--workers N] [NAME=PATH]...`.
 fn rules<'a>(alloc: Global) -> Result<Command<'a>, AllocError>
     ensures app { IfOk result (λ c. app_of c ≡ judging_app (codes "rules")) }
     ensures local { IfOk result (λ c. (fields_of c).has_globals ≡ false) }
@@ -190,7 +209,7 @@ fn rules<'a>(alloc: Global) -> Result<Command<'a>, AllocError>
         .arg(senders_words(alloc))
 }
 
-// Returns `report FILE [--root DIR] [--netgroups F] [--hostname NAME] --users F --hosts F [--workers N] [NAME=PATH]...`.
+// Returns `report FILE [--root DIR] [--netgroups F] [--addresses F] [--hostname NAME] --users F --hosts F [--workers N] [NAME=PATH]...`.
 fn report<'a>(alloc: Global) -> Result<Command<'a>, AllocError>
     ensures app { IfOk result (λ c. app_of c ≡ judging_app (codes "report")) }
     ensures local { IfOk result (λ c. (fields_of c).has_globals ≡ false) }
@@ -201,20 +220,29 @@ fn report<'a>(alloc: Global) -> Result<Command<'a>, AllocError>
         .arg(senders_words(alloc))
 }
 
-// Returns `compare OLD NEW [--netgroups F] [--hostname NAME]`.
-fn policies<'a>(alloc: Global) -> Result<Command<'a>, AllocError>
-    ensures app { IfOk result (λ c. app_of c ≡ policies_app) }
+// Returns `compare OLD NEW [--netgroups F]`.
+fn pair_of_files<'a>(alloc: Global) -> Result<Command<'a>, AllocError>
+    ensures app { IfOk result (λ c. app_of c ≡ files_app) }
     ensures local { IfOk result (λ c. (fields_of c).has_globals ≡ false) }
 {
     Command::new(alloc, "compare")
         .about("Lists what a change of a policy does, for every command")
         .arg(word(alloc, "old", "The main file of the policy before"))?
         .arg(word(alloc, "new", "The main file of the policy after"))?
-        .arg(netgroups(alloc))?
+        .arg(netgroups(alloc))
+}
+
+// Returns `compare OLD NEW [--netgroups F] [--addresses F] [--hostname NAME]`.
+fn policies<'a>(alloc: Global) -> Result<Command<'a>, AllocError>
+    ensures app { IfOk result (λ c. app_of c ≡ policies_app) }
+    ensures local { IfOk result (λ c. (fields_of c).has_globals ≡ false) }
+{
+    pair_of_files(alloc)?
+        .arg(addresses(alloc))?
         .arg(hostname(alloc))
 }
 
-// Returns `compare OLD NEW [--netgroups F] [--hostname NAME] --users F --hosts F`.
+// Returns `compare OLD NEW [--netgroups F] [--addresses F] [--hostname NAME] --users F --hosts F`.
 fn pair<'a>(alloc: Global) -> Result<Command<'a>, AllocError>
     ensures app { IfOk result (λ c. app_of c ≡ pair_app) }
     ensures local { IfOk result (λ c. (fields_of c).has_globals ≡ false) }
@@ -235,7 +263,8 @@ fn requests<'a>(alloc: Global) -> Arg<'a>
         .help("In place of all commands, the requests of a sender's file, as NAME=PATH")
 }
 
-// Returns `compare OLD NEW [--netgroups F] [--hostname NAME] --users F --hosts F [--user NAME] [--host NAME] [--requests NAME=PATH]...`.
+// Returns `compare OLD NEW [--netgroups F] [--addresses F] [--hostname NAME] --users F --hosts F [--user NAME] [--host NAME] [--requests
+// NAME=PATH]...`.
 fn compare<'a>(alloc: Global) -> Result<Command<'a>, AllocError>
     ensures app { IfOk result (λ c. app_of c ≡ compare_app) }
     ensures local { IfOk result (λ c. (fields_of c).has_globals ≡ false) }

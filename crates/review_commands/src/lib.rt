@@ -1,6 +1,8 @@
 //! The words of the command line, and the commands of the reviewer that are about one policy.
 #![tactic(auto)]
 
+mod address_rows;
+mod addresses;
 mod cautions;
 mod check;
 mod command_line;
@@ -29,6 +31,7 @@ mod survey;
 mod who;
 mod words;
 
+pub use addresses::machine_addresses;
 pub use cautions::cautions_run;
 pub use check::check_run;
 pub use ending::{NotedOutput, end_noted};

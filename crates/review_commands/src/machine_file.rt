@@ -19,6 +19,8 @@ pub enum MachineFile {
     Netgroups,
     /// The hosts that are known.
     Hosts,
+    /// The IPv6 addresses of hosts.
+    Addresses,
 }
 
 /// The reason why a file says nothing of a machine.
@@ -39,6 +41,7 @@ impl MachineFile {
             MachineFile::Links => b"links",
             MachineFile::Netgroups => b"netgroups",
             MachineFile::Hosts => b"hosts",
+            MachineFile::Addresses => b"addresses",
         }
     }
 }

@@ -1,12 +1,13 @@
 //! The files of the policy that a command is about.
 ghost use Rattle.run_base.specs.Holding.{any_holdings};
 
+use crate::addresses::machine_addresses;
 use crate::machine_file::MachineFileFault;
 use crate::netgroups::machine_netgroups;
 use crate::request::PolicyPath;
 use audit_files::Triple;
 use review_files::{HostTree, Rooted};
-use review_texts::{Masked, Readable};
+use review_texts::{HostAddress, Masked, Readable};
 use run_base::{Disk, Files, FilesFault, OpenFault, SystemOpener, open};
 use std::alloc::Global;
 use sudo_text::Seq;
@@ -26,6 +27,21 @@ fn netgroups_at(rt: &HostRuntime, path: Option<&str>) -> Result<Vec<Triple>, Mac
     };
     match open(alloc, &SystemOpener::new(rt), path) {
         Ok(mut file) => machine_netgroups(alloc, &mut file),
+        Err(fault) => Err(MachineFileFault::Unopened(fault)),
+    }
+}
+
+// Returns the addresses of hosts that the file at a path states, if one is given.
+fn addresses_at(
+    rt: &HostRuntime,
+    path: Option<&str>,
+) -> Result<Option<Seq<HostAddress>>, MachineFileFault> {
+    let alloc = rt.alloc();
+    let Some(path) = path else {
+        return Ok(None);
+    };
+    match open(alloc, &SystemOpener::new(rt), path) {
+        Ok(mut file) => Ok(Some(machine_addresses(alloc, &mut file)?)),
         Err(fault) => Err(MachineFileFault::Unopened(fault)),
     }
 }
@@ -63,40 +79,44 @@ fn masked_files<'a>(
     rt: &'a HostRuntime,
     root: Option<&str>,
     netgroups: Option<&str>,
+    addresses: Option<&str>,
     host: Option<&str>,
 ) -> Result<MaskedFiles<'a>, MachineFileFault> {
     let netgroups = netgroups_at(rt, netgroups)?;
+    let addresses = addresses_at(rt, addresses)?;
     let host = name_of(rt, host)?;
     let files = files_below(rt, root)?;
     let readable = Readable {
         noted: true,
         netgroups,
         host,
-        addresses: None,
+        addresses,
     };
     Ok(Masked::new(files, readable))
 }
 
 /// Returns the files of a policy, with their masked texts: a note stands for each digest, time and root, the members for each
-/// netgroup that the file of netgroups has, and the name of a host, if one is given, for each `%h`. Returns why that file says
-/// nothing, if it does not, and `Unopened` with `Memory` if allocation failed.
+/// netgroup that the file of netgroups has, the hosts for each IPv6 address, if the file of addresses is given, and the name of a host,
+/// if one is given, for each `%h`. Returns why one of these files says nothing, if it does not, and `Unopened` with `Memory` if
+/// allocation failed.
 pub(crate) fn policy_files<'a>(
     rt: &'a HostRuntime,
     policy: PolicyPath<'_>,
     host: Option<&str>,
 ) -> Result<MaskedFiles<'a>, MachineFileFault> {
-    masked_files(rt, policy.root, policy.netgroups, host)
+    masked_files(rt, policy.root, policy.netgroups, policy.addresses, host)
 }
 
 /// Returns the files of this machine twice, with their masked texts, for two policies that are compared. Returns why the file of netgroups
-/// says nothing, if it does not, and `Unopened` with `Memory` if allocation failed.
+/// or that of addresses says nothing, if it does not, and `Unopened` with `Memory` if allocation failed.
 pub fn pair_files<'a>(
     rt: &'a HostRuntime,
     netgroups: Option<&str>,
+    addresses: Option<&str>,
     host: Option<&str>,
 ) -> Result<(MaskedFiles<'a>, MaskedFiles<'a>), MachineFileFault> {
-    let old = masked_files(rt, None, netgroups, host)?;
-    let new = masked_files(rt, None, netgroups, host)?;
+    let old = masked_files(rt, None, netgroups, addresses, host)?;
+    let new = masked_files(rt, None, netgroups, addresses, host)?;
     Ok((old, new))
 }
 

@@ -90,11 +90,13 @@ fn policy_of<'a>(given: &ArgMatches<'a>) -> Option<PolicyPath<'a>>
     let file = value(given, "file")?;
     let root = value(given, "root");
     let netgroups = value(given, "netgroups");
+    let addresses = value(given, "addresses");
     let hostname = value(given, "hostname");
     Some(PolicyPath {
         file,
         root,
         netgroups,
+        addresses,
         hostname,
     })
 }
@@ -262,6 +264,7 @@ fn pair_of<'a>(given: &ArgMatches<'a>) -> Option<PairPaths<'a>>
     let users = value(given, "users")?;
     let hosts = value(given, "hosts")?;
     let netgroups = value(given, "netgroups");
+    let addresses = value(given, "addresses");
     let hostname = value(given, "hostname");
     Some(PairPaths {
         old,
@@ -269,6 +272,7 @@ fn pair_of<'a>(given: &ArgMatches<'a>) -> Option<PairPaths<'a>>
         users,
         hosts,
         netgroups,
+        addresses,
         hostname,
     })
 }
@@ -549,7 +553,7 @@ fn asked_of<'a, S: AsStr>(
 /// `rules FILE --users F --hosts F [--workers N] [NAME=PATH]...`,
 /// `compare OLD NEW --users F --hosts F [--user NAME] [--host NAME]`, or
 /// `compare OLD NEW --users F --hosts F --requests NAME=PATH...`, where N is 1 to 16, by default 2; each but `compare`
-/// takes `--root DIR` behind its name, and each `--netgroups F` and `--hostname NAME`.
+/// takes `--root DIR` behind its name, and each `--netgroups F`, `--addresses F` and `--hostname NAME`.
 ///
 /// Returns `clap`'s error, apart from allocation failure, exactly if `clap` does not accept the
 /// words (they are no such command, or ask for help or for the version), a CLASS is no class of cautions, a KIND no kind of alias, a

@@ -29,7 +29,7 @@ fn run_compare<T: Threads + Sync>(
         Ok(found) => found,
         Err(fault) => return refused(rt, fault),
     };
-    let (mut before, mut after) = match pair_files(rt, paths.netgroups, name) {
+    let (mut before, mut after) = match pair_files(rt, paths.netgroups, paths.addresses, name) {
         Ok(pair) => pair,
         Err(fault) => return refused(rt, fault),
     };
@@ -69,7 +69,7 @@ fn run_changes<T: Threads + Wait + Sync>(
         Ok(found) => found,
         Err(fault) => return refused(rt, fault),
     };
-    let (mut before, mut after) = match pair_files(rt, paths.netgroups, name) {
+    let (mut before, mut after) = match pair_files(rt, paths.netgroups, paths.addresses, name) {
         Ok(pair) => pair,
         Err(fault) => return refused(rt, fault),
     };
