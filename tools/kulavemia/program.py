@@ -42,7 +42,7 @@ MEANING = {PROGRAM: "the program is not there, or refuses; its own line is shown
 class Policy(NamedTuple):
     """The policy by which requests are judged. Places in a copy below a root folder are shown without that folder.
 
-    Without a file of netgroups its path is empty; so is the host's name if the policy has no `%h`.
+    Without a file of netgroups, or of addresses, its path is empty; so is the host's name if the policy has no `%h`.
     """
 
     file: str
@@ -50,16 +50,17 @@ class Policy(NamedTuple):
     hosts: str
     root: str = ""
     netgroups: str = ""
+    addresses: str = ""
     hostname: str = ""
 
     def words(self) -> list[str]:
         """Returns the words of a command line of `sudo_review` that say how the policy is read."""
-        return [*words_of_netgroups(self.netgroups), *words_of_hostname(self.hostname)]
+        return words_of_reading(self.netgroups, self.addresses, self.hostname)
 
     def want_plain(self) -> None:
         """Raises `Fault` if a program would wait for one of the files, or read without end."""
         want_plain(self.file, foreign.POLICY_CAP)
-        for path in filter(None, (self.users, self.hosts, self.netgroups)):
+        for path in filter(None, (self.users, self.hosts, self.netgroups, self.addresses)):
             want_plain(path, foreign.REQUESTS_CAP)
 
 
@@ -111,9 +112,21 @@ def add_netgroups_option(words: ArgumentParser) -> None:
     )
 
 
-def words_of_netgroups(path: str) -> list[str]:
-    """Returns the words of a command line of `sudo_review` that name a file of netgroups; none without a file."""
-    return ["--netgroups", as_word(path)] if path else []
+def add_addresses_option(words: ArgumentParser) -> None:
+    """Adds the option that names the file of the hosts' IPv6 addresses."""
+    words.add_argument(
+        "--addresses",
+        metavar="FILE",
+        help="addresses.csv: the IPv6 addresses of the policy are read as the hosts that have them; sudo_review alone takes it,"
+        " and is wanted",
+    )
+
+
+def words_of_reading(netgroups: str, addresses: str, hostname: str) -> list[str]:
+    """Returns the words of a command line of `sudo_review` that say how a policy is read; none for what is empty."""
+    named = {"--netgroups": netgroups, "--addresses": addresses}
+    words = [word for option, path in named.items() if path for word in (option, as_word(path))]
+    return [*words, *words_of_hostname(hostname)]
 
 
 def find(given: str | None, name: str = NAME) -> str:
@@ -175,7 +188,8 @@ def with_hint(said: str) -> str:
 
 def named_by(said: Fault, policy: Policy) -> Fault:
     """Returns a program's refusal behind the path of the users or the hosts, of which it says only that they are these."""
-    for kind, path in (("users", policy.users), ("hosts", policy.hosts), ("netgroups", policy.netgroups)):
+    files = {"users": policy.users, "hosts": policy.hosts, "netgroups": policy.netgroups, "addresses": policy.addresses}
+    for kind, path in files.items():
         if str(said).startswith((f"{NAME}: {kind}: ", f"{REVIEW}: {kind}: ")):
             return Fault(f"{path}: {said}", PROGRAM)
     return said

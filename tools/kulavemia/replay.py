@@ -50,6 +50,7 @@ class Options(NamedTuple):
     old_tree: str | None
     directory: str | None
     netgroups: str | None
+    addresses: str | None
     hostname: str | None
     programs: str
     no_probe: bool
@@ -195,8 +196,10 @@ def described(given: Options, found: Given) -> Described:
 
 
 def _directory_files(given: Options, found: Directory) -> list[File]:
-    """Returns what the users and hosts files are like, or the collected files of which they are made, and that of netgroups."""
+    """Returns what the users and hosts files are like, or the collected files of which they are made, and those of netgroups and
+    addresses."""
     named = [found.netgroups] if found.netgroups and found.triples is None else []
+    named += [given.addresses] if given.addresses else []
     if given.directory:
         return [file_of(path, foreign.REQUESTS_CAP) for path in (found.users, found.hosts, *named)]
     below = given.collected or ""
@@ -248,7 +251,7 @@ class Replay:
         self.say = say
         self.program = program.find(given.program)
         self.second = program.find(given.review, program.REVIEW)
-        second_alone = bool(self.found.directory.netgroups or self.found.hostname)
+        second_alone = bool(self.found.directory.netgroups or given.addresses or self.found.hostname)
         self.judge = program.find_judge(given.program, given.review, second_alone)
         self.requests = ""
         self.probe = ""
@@ -264,7 +267,8 @@ class Replay:
 
     def _judged_by(self, policy: Prepared) -> program.Policy:
         found = self.found.directory
-        return program.Policy(policy.file(), found.users, found.hosts, policy.root, found.netgroups, self.found.hostname)
+        reading = found.netgroups, self.given.addresses or "", self.found.hostname
+        return program.Policy(policy.file(), found.users, found.hosts, policy.root, *reading)
 
     def run(self) -> None:
         """Runs the steps that are not done yet."""
@@ -275,6 +279,8 @@ class Replay:
         policy, old = self.found.policy.prepared, self.found.old_policy
         if self.found.directory.netgroups:
             self.say(f"netgroups: {self.found.directory.netgroups}")
+        if self.given.addresses:
+            self.say(f"addresses: {self.given.addresses}")
         if self.found.hostname:
             self.say(f"hostname: {self.found.hostname}")
         found = program.check(self.second, self._judged_by(policy))
