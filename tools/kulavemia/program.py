@@ -123,7 +123,8 @@ def add_addresses_option(words: ArgumentParser) -> None:
 
 
 def words_of_reading(netgroups: str, addresses: str, hostname: str) -> list[str]:
-    """Returns the words of a command line of `sudo_review` that say how a policy is read; none for what is empty."""
+    """Returns the words of a command line of `sudo_review` that name the file of netgroups, that of addresses and the host, where
+    they are not empty."""
     named = {"--netgroups": netgroups, "--addresses": addresses}
     words = [word for option, path in named.items() if path for word in (option, as_word(path))]
     return [*words, *words_of_hostname(hostname)]

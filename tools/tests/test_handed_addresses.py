@@ -3,14 +3,10 @@
 import json
 import os
 
-from support import PROGRAM, REQUESTS_HEADER, REVIEW, Case, needs_jinja, needs_program, needs_review
+from noting import NotingCase
+from support import REQUESTS_HEADER, Case, needs_jinja, needs_program, needs_review
 
 ADDRESSES = "host,address\nweb1,2001:db8::1/64\n"
-# A program that notes its words, each in a line, and has the answers of another one.
-NOTING = """#!/bin/sh
-printf '%s\\n' "$@" "" >>{folder}/words
-exec {program} "$@"
-"""
 
 
 class AddressCase(Case):
@@ -72,23 +68,10 @@ class Lint(AddressCase):
 @needs_program
 @needs_review
 @needs_jinja
-class Replay(AddressCase):
-    def setUp(self) -> None:
-        super().setUp()
-        for name, program in (("sudo_audit", PROGRAM), ("sudo_review", REVIEW)):
-            os.chmod(self.write(f"{name}/stub", NOTING.format(folder=self.path(name), program=program)), 0o755)
-
-    def runs(self, name: str) -> list[list[str]]:
-        """Returns the words of each run of a program that printed a table."""
-        if not os.path.exists(self.path(name, "words")):
-            return []
-        runs = [run.split("\n") for run in self.read(name, "words").split("\n\n") if run]
-        return [run for run in runs if run != ["--version"]]
-
+class Replay(NotingCase, AddressCase):
     def test_each_run_of_the_second_program_gets_them(self) -> None:
-        programs = ("--program", self.path("sudo_audit", "stub"), "--review", self.path("sudo_review", "stub"))
         words = ("--policy", "new", "--old-policy", "old", "--directory", "d", "--addresses", "a.csv", "--out", "out")
-        out, _ = self.run_tool("replay", *words, *programs, status=1)
+        out, _ = self.run_tool("replay", *words, *self.programs, status=1)
         self.assertIn("addresses: a.csv\n", out)
         self.assertEqual(self.runs("sudo_audit"), [])
         for run in self.runs("sudo_review"):
@@ -96,5 +79,5 @@ class Replay(AddressCase):
         files = json.loads(self.read("out", "review.json"))["files"]
         self.assertIn(("directory", "a.csv", len(ADDRESSES)), [(file["role"], file["path"], file["bytes"]) for file in files])
         self.write("a.csv", ADDRESSES + "web2,2001:db8::2\n")
-        said = self.run_tool("replay", *words, *programs, status=2)[1]
+        said = self.run_tool("replay", *words, *self.programs, status=2)[1]
         self.assertIn("out is of other inputs (the directory differs)", said)

@@ -7,10 +7,10 @@ import subprocess
 import unittest
 
 from fleet_case import FleetCase, requests
+from noting import NotingCase
 from recorded import faults_of
 from support import PROGRAM, REQUESTS_HEADER, REVIEW, Case, needs_jinja, needs_program, needs_review, needs_schema
 from test_fleet_roots import FleetRoots
-from test_handed_netgroups import NOTING
 from test_hostname import BAD_NAMES, DIRECTIVES, NAMES, PIECES
 
 from kulavemia.hostname import is_name, of_this_machine, short_name
@@ -154,20 +154,7 @@ class Lint(HostnameCase):
 @needs_program
 @needs_review
 @needs_jinja
-class Replay(HostnameCase):
-    def setUp(self) -> None:
-        super().setUp()
-        for name, program in (("sudo_audit", PROGRAM), ("sudo_review", REVIEW)):
-            os.chmod(self.write(f"{name}/stub", NOTING.format(folder=self.path(name), program=program)), 0o755)
-        self.programs = ("--program", self.path("sudo_audit", "stub"), "--review", self.path("sudo_review", "stub"))
-
-    def runs(self, name: str) -> list[list[str]]:
-        """Returns the words of each run of a program that printed a table."""
-        if not os.path.exists(self.path(name, "words")):
-            return []
-        runs = [run.split("\n") for run in self.read(name, "words").split("\n\n") if run]
-        return [run for run in runs if run != ["--version"]]
-
+class Replay(NotingCase, HostnameCase):
     def replay(self, *words: str, status: int = 1) -> tuple[str, str]:
         """Makes a page of the policies."""
         words = ("--policy", "new", "--old-policy", "old", "--directory", "d", "--out", "out", *words)

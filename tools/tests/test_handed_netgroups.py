@@ -5,16 +5,12 @@ import os
 import unittest
 
 from fleet_case import FleetCase, requests
+from noting import NotingCase
 from recorded import faults_of
 from support import PROGRAM, REQUESTS_HEADER, REVIEW, Case, needs_jinja, needs_program, needs_review, needs_schema
 from test_fleet_roots import FleetRoots
 
 NETGROUPS = "netgroup,host,user,domain\nops,,ann,\nweb,web1,-,\n"
-# A program that notes its words, each in a line, and has the answers of another one.
-NOTING = """#!/bin/sh
-printf '%s\\n' "$@" "" >>{folder}/words
-exec {program} "$@"
-"""
 
 
 class NetgroupCase(Case):
@@ -97,24 +93,11 @@ class Lint(NetgroupCase):
 @needs_program
 @needs_review
 @needs_jinja
-class Replay(NetgroupCase):
-    def setUp(self) -> None:
-        super().setUp()
-        for name, program in (("sudo_audit", PROGRAM), ("sudo_review", REVIEW)):
-            os.chmod(self.write(f"{name}/stub", NOTING.format(folder=self.path(name), program=program)), 0o755)
-
+class Replay(NotingCase, NetgroupCase):
     def replay(self, *words: str, status: int = 1) -> tuple[str, str]:
         """Makes a page of the policies."""
-        programs = ("--program", self.path("sudo_audit", "stub"), "--review", self.path("sudo_review", "stub"))
-        words = ("--policy", "new", "--old-policy", "old", "--directory", "d", "--out", "out", *programs, *words)
+        words = ("--policy", "new", "--old-policy", "old", "--directory", "d", "--out", "out", *self.programs, *words)
         return self.run_tool("replay", *words, status=status)
-
-    def runs(self, name: str) -> list[list[str]]:
-        """Returns the words of each run of a program that printed a table."""
-        if not os.path.exists(self.path(name, "words")):
-            return []
-        runs = [run.split("\n") for run in self.read(name, "words").split("\n\n") if run]
-        return [run for run in runs if run != ["--version"]]
 
     def test_each_run_of_the_second_program_gets_them(self) -> None:
         out, _ = self.replay("--netgroups", "n.csv")
